@@ -16,7 +16,7 @@ import time
 
 LIBRARY = "11111111-2222-4333-8444-555555555555"
 TOKEN = "a" * 40
-SPARE = ".seaf-cli.spare"
+SPARE, MARKER = ".seaf-cli.spare", ".seaf-cli.library"
 FOLDERS, FILES = 5, 40
 COMMAND_SECONDS = 120
 
@@ -51,7 +51,7 @@ def must(words, beginning=""):
 
 
 def held(top):
-    """What a folder holds: of each path of a file its bytes, of a directory None."""
+    """What a folder holds beside its marker: of each path of a file its bytes, of a directory None."""
     found = {}
     for above, directories, files in os.walk(top):
         for name in directories:
@@ -60,6 +60,7 @@ def held(top):
             path = os.path.join(above, name)
             with open(path, "rb") as file:
                 found[os.path.relpath(path, top)] = file.read()
+    found.pop(MARKER, None)
     return found
 
 

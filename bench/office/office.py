@@ -32,7 +32,7 @@ def tree(folder):
     for place, _, files in os.walk(folder):
         for name in files:
             path = os.path.join(place, name)
-            if name != '.seaf-cli.spare':
+            if name not in ('.seaf-cli.spare', '.seaf-cli.library'):
                 found[os.path.relpath(path, folder)] = open(path, 'rb').read()
     return found
 

@@ -1,9 +1,11 @@
 # Runs of the client, whose program is CLIENT, and what it leaves.
 
-# client WORD..: runs the client with these words, and no input.
+# client WORD..: runs the client with these words, and no input. The lines that tell where a relative path leads stand in `advice`.
 client() {
     status=0
-    timeout -k 5 "$SECONDS_EACH" "$CLIENT" "$@" < /dev/null > got 2> complaint || status=$?
+    timeout -k 5 "$SECONDS_EACH" "$CLIENT" "$@" < /dev/null > got 2> said || status=$?
+    grep -a ' goes by where seaf-cli runs: ' said > advice || :
+    grep -av ' goes by where seaf-cli runs: ' said > complaint || :
     ran=$*
 }
 
@@ -20,6 +22,11 @@ one_job() {
     printf '{"jobs":[{"dir":"work","host":"127.0.0.1","lib":"%s","port":1,"secret":"%s","user":"me"}],"version":1}' \
         "$LIB" "$SECRET" > conf/seaf.json
     printf '{"base":null,"entries":[],"lib":"%s","version":1}' "$LIB" > "conf/index-$LIB.json"
+}
+
+# entries FOLDER: the names in a synced folder, without its marker.
+entries() {
+    ls -A "$1" | grep -vx '[.]seaf-cli[.]library' || :
 }
 
 # download CONF FOLDER [SECRET]: the client of this folder of its own downloads the library that the port serves into an empty folder.

@@ -1,6 +1,6 @@
 -- A folder goes out and comes back, and what was done meanwhile. The key lemmas are not_taken, begins_none, untaken, unworked,
--- was_full, was_wanted, own_command, with_own, all_same and works_out.
-use Rattle.std.proofs.Common.{◌≡◌, ◌≤◌, ℕ, Bool, true, false, List, Option, Some, Result, Err, refl, sym, ap, subst, ◌∙◌, true≢false}
+-- was_full, was_wanted, own_command, with_own, all_same, works_out, was_put, not_put, works_behind, view_same and same_places.
+use Rattle.std.proofs.Common.{◌≡◌, ◌≤◌, ℕ, Bool, true, false, List, Option, Some, Result, Ok, Err, refl, sym, ap, subst, ◌∙◌, true≢false}
 use Rattle.std.proofs.lemmas.Bool.{false≢true}
 use Rattle.std.specs.Prelude.{IfErr}
 use Rattle.std.specs.Bool.{MatchBool}
@@ -18,7 +18,7 @@ use Rattle.client_words.specs.declared.job.Job.{Job}
 use Rattle.client_desk.specs.Desk.{SameElsewhere}
 use Rattle.client_desk.specs.KeptTexts.{fault_of_folder}
 use Rattle.client_desk.proofs.KeptLemmas.{free_as, told_as}
-use Rattle.client_commands.specs.Folders.{GivesFolder, LacksFolder, TakesFolder, WithFolder, opened}
+use Rattle.client_commands.specs.Folders.{GivesFolder, LacksFolder, ChecksMarker, TakesFolder, WithFolder, opened}
 use Rattle.client_commands.specs.JobSyncs.{BeginsNone, SyncsOver, WorksBy, WorksSo, failed, full, has_entry, is_unwanted, synced}
 use Rattle.client_commands.specs.Keeping.{DeskKeeps}
 use Rattle.client_commands.specs.Runs.{InOwn}
@@ -120,3 +120,41 @@ module _ {N : Type 0} (dir : List ℕ) (own kept : OwnView) (old begun ended new
         (subst (λ (back : List N). WorksBy links shows wanted job i j own.told kept.told begun.dials back r) (sym gives.dials) works)));
     others = subst (λ (d : List ℕ). SameElsewhere old.holds new.holds d) here (others_same keeps);
   }
+
+-- ---- the marker of a folder that was synced
+
+-- it was put, if it was to be
+pub was_put : {N : Type 0} (s : Synced) (old new : DeskView N) → new.has_place ≡ old.has_place → new.holds ≡ old.holds → new.dials ≡ old.dials → new.dial_faults ≡ old.dial_faults
+    → new.folder_faults ≡ old.folder_faults → ChecksMarker s old new (Ok s) × DeskKeeps {T = Synced} old new (Ok s)
+was_put s old new places holds dials faults folders = (
+  record { holds = holds; dials = dials; same = refl; free = tt },
+  record {
+    places = places;
+    folders = not_fallen_same old.folder_faults new.folder_faults folders;
+    dials = not_fallen_same old.dial_faults new.dial_faults faults;
+    rose = tt;
+  },
+)
+
+-- or it could not be
+pub not_put : {N : Type 0} (s : Synced) (e : Fault) (old new : DeskView N) → LacksFolder old new e → ChecksMarker s old new (Err e)
+not_put s e old new lacks = record { holds = lacks.holds; dials = lacks.dials; same = tt; free = lacks.free }
+
+-- what was done of a job stands
+pub works_behind : {N : Type 0} (links : N → DialView) (shows : ℕ → Type 0) (wanted : Wanted) (job : Job) (i j : Index) (old new later : DeskView N) (r : Result Synced Fault) → later.holds ≡ new.holds
+    → later.dials ≡ new.dials → WorksSo links shows wanted job i j old new r → WorksSo links shows wanted job i j old later r
+works_behind {N} links shows wanted job i j old new later r holds dials works = record {
+  works =
+      subst (λ (now : Option Contents). WorksBy links shows wanted job i j (old.holds job.dir) now old.dials later.dials r) (sym (ap (λ (h : List ℕ → Option Contents). h job.dir) holds))
+      (subst (λ (back : List N). WorksBy links shows wanted job i j (old.holds job.dir) (new.holds job.dir) old.dials back r) (sym dials) works.works);
+  others = subst (λ (h : List ℕ → Option Contents). SameElsewhere old.holds h job.dir) (sym holds) works.others;
+}
+
+-- a desk of which all that is told stays is the same
+pub view_same : {N : Type 0} (old new : DeskView N) → new.has_place ≡ old.has_place → new.holds ≡ old.holds → new.folder_faults ≡ old.folder_faults → new.dials ≡ old.dials
+    → new.dial_faults ≡ old.dial_faults → new ≡ old
+view_same old new places holds folders dials faults =
+    λ i. record { has_place = places i; holds = holds i; dials = dials i; folder_faults = folders i; dial_faults = faults i }
+
+pub same_places : {N : Type 0} (old new : DeskView N) → new ≡ old → new.has_place ≡ old.has_place
+same_places {N} old new same = ap (λ (v : DeskView N). v.has_place) same

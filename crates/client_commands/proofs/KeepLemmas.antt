@@ -1,4 +1,4 @@
--- What a desk keeps over the parts of a command, and why a fault came. The key lemmas are folder_rose, fell_none, fell_then, own_kept, folder_kept, kept_after, desk_same, desk_kept, kept_looked, put_kept, put_fault, kept_err, own_err, kept_then,
+-- What a desk keeps over the parts of a command, and why a fault came. The key lemmas are folder_rose, fell_none, fell_then, own_kept, folder_kept, kept_after, desk_same, desk_kept, kept_looked, put_kept, put_fault, marker_kept, kept_err, own_err, kept_then,
 -- kept_out and still_found.
 use Rattle.std.proofs.Common.{◌≡◌, ◌≤◌, inl, inr, ℕ, Bool, false, IsTrue, List, Result, Ok, Err, IfErr, refl, sym, ap, subst, ◌∙◌, true≢false}
 use Rattle.std.specs.Prelude.{◌⊎◌, ⊤}
@@ -226,6 +226,11 @@ module _ {N : Type 0} where
   put_fault own mid kept old new x e first keeps told free =
       let before : OwnKeeps own mid old new (Ok x) = desk_kept own mid old new (Ok x) first keeps in
       kept_then own mid kept old new new (Err e) before.fell (own_kept mid kept new new (Err e) told (free_local e free) refl)
+
+  -- and the marker put after, or not
+  pub marker_kept : {T : Type 0} (own kept : OwnView) (old new later : DeskView N) (x : T) (r : Result T Fault) → OwnKeeps own kept old new (Ok x) → DeskKeeps new later r
+      → OwnKeeps own kept old later r
+  marker_kept own kept old new later x r keeps then_kept = kept_then own kept kept old new later r keeps.fell (desk_kept kept kept new later r refl then_kept)
 
   -- ---- a folder that is out meanwhile
 

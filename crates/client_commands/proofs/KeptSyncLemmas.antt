@@ -1,7 +1,7 @@
--- What is kept of a sync, and which job it is. The key lemmas are kept_index, kept_index_free, due_some, due_none, due_host, due_exists,
+-- What is kept of a sync, and which job it is. The key lemmas are kept_index, kept_index_free, index_behind, job_behind, due_some, due_none, due_host, due_exists,
 -- asked_fault, asked_listed, asked_new, worked_new, added, lost_index, kept_job and kept_job_free.
 use Rattle.std.proofs.Common.{◌≡◌, inl, inr, ℕ, Bool, true, false, IsTrue, List, Option, None, Some, option_map, Result, Ok, Err, refl, sym, ap, subst, ◌∙◌}
-use Rattle.std.specs.Prelude.{◌⊎◌, ⊤}
+use Rattle.std.specs.Prelude.{◌⊎◌, ⊤, IfOk, IfErr}
 use Rattle.std.specs.List.{find, list_any}
 use Rattle.std.proofs.lemmas.List.Elements.{recursion_from_All}
 use Rattle.folder_side.specs.Folder.{Changes, Contents}
@@ -36,6 +36,17 @@ module _ (j : Index) (s : Synced) (own mid kept : Option Contents) (same : mid �
       by : (c : Contents) → mid ≡ Some c → (kept ≡ mid) ⊎ (kept ≡ option_map (with_index j) mid) → (kept ≡ Some c) ⊎ (kept ≡ Some (with_index j c))
       by c held (inl stays) = inl (stays ∙ held)
       by c held (inr goes) = inr (goes ∙ ap (option_map (with_index j)) held)
+
+-- the marker of its folder was put after, or not
+pub index_behind : (j : Index) (s : Synced) (own kept : Option Contents) (r : Result Synced Fault) → IfOk r (λ (t : Synced). t ≡ s) → IfErr r (λ (e : Fault). IsTrue (is_free e))
+    → KeepsIndex j (Ok s) own kept (Ok s) → KeepsIndex j (Ok s) own kept r
+index_behind j s own kept (Ok t) same free keeps = (same, keeps.1, keeps.2)
+index_behind j s own kept (Err e) same free keeps = (free, λ c held. inr (keeps.2 c held))
+
+pub job_behind : (job : Job) (jobs : List Job) (j : Index) (s : Synced) (own kept : Option Contents) (r : Result Synced Fault) → IfOk r (λ (t : Synced). t ≡ s)
+    → IfErr r (λ (e : Fault). IsTrue (is_free e)) → KeepsJob job jobs j (Ok s) own kept (Ok s) → KeepsJob job jobs j (Ok s) own kept r
+job_behind job jobs j s own kept (Ok t) same free keeps = (same, keeps.1, keeps.2)
+job_behind job jobs j s own kept (Err e) same free keeps = (free, λ c held. inr (inr (keeps.2 c held)))
 
 -- ---- which job it is
 

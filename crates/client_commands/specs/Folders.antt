@@ -1,10 +1,18 @@
--- A folder is out from the beginning of a command, or of a sync, to its end. Our own. Read TakesFolder and GivesFolder, then WithFolder.
-use Rattle.std.specs.Prelude.{◌≡◌, ℕ, IsTrue, List, Option, Result, Ok, Err}
+-- A folder is out from the beginning of a command, or of a sync, to its end. Our own. Read TakesFolder and GivesFolder, then WithFolder,
+-- claim_of and ChecksMarker.
+use Rattle.std.specs.Prelude.{◌≡◌, ℕ, IsTrue, List, Option, Result, Ok, Err, IfOk, IfErr, nat_lt}
+use Rattle.std.specs.FinMap as map
 use Rattle.folder_side.specs.Folder.{Contents}
 use Rattle.http_front.specs.Dial.{count_sum}
 use Rattle.client_words.specs.declared.fault.Fault.{Fault}
+use Rattle.client_words.specs.declared.job.Job.{Job}
+use Rattle.client_desk.specs.declared.desk.Asking.{Asking}
+use Rattle.client_desk.specs.declared.desk.Claim.{Claim}
+use Rattle.client_desk.specs.declared.desk.Claim.TheVariants.{Listed}
 use Rattle.client_desk.specs.Desk.{SameElsewhere}
 use Rattle.client_desk.specs.KeptTexts.{is_free}
+use Rattle.local_index.specs.declared.index.Index.{Index}
+use Rattle.sync_rules.specs.declared.synced.Synced.{Synced}
 use Rattle.client_commands.specs.Keeping.{DeskKeeps}
 use Rattle.client_commands.specs.Views.{DeskView, OwnView, own_view}
 
@@ -53,3 +61,17 @@ pub record WithOwn {N : Type 0} (conf : List ℕ) (does : (own kept : OwnView) �
 pub data WithFolder {N T : Type 0} (conf : List ℕ) (does : (own kept : OwnView) → (old new : DeskView N) → Result T Fault → Type 0) (old new : DeskView N) (result : Result T Fault) : Type 0 where
   unopened : (e : Fault) → result ≡ Err e → LacksFolder old new e → WithFolder conf does old new result
   opened : WithOwn conf (λ own kept begun ended. does own kept begun ended result) old new → WithFolder conf does old new result
+
+-- ---- what a folder is asked for as, and its marker
+
+-- that of a job of the list: by which command, for its library, and whether its index has a path
+abbrev pub claim_of : Job → Index → Asking → Claim
+claim_of job index asking = Listed job.lib asking (nat_lt 0 (map.len index.entries))
+
+-- a sync ended well, and is told so where the marker of its folder could be put; else a folder failed, or there was no memory. Nothing that is told of
+-- the desk is changed but its count
+pub record ChecksMarker {N : Type 0} (s : Synced) (old new : DeskView N) (result : Result Synced Fault) : Type 0 where
+  pub holds : new.holds ≡ old.holds
+  pub dials : new.dials ≡ old.dials
+  pub same : IfOk result (λ t. t ≡ s)
+  pub free : IfErr result (λ e. IsTrue (is_free e))

@@ -14,10 +14,13 @@ use Rattle.client_words.specs.declared.line.Line.{Line}
 use Rattle.client_words.specs.declared.line.Line.TheVariants as line
 use Rattle.client_desk.specs.Commands.{with_jobs}
 use Rattle.client_desk.specs.JobList.{job_due, jobs_with}
+use Rattle.client_desk.specs.declared.desk.Asking.{Asking}
+use Rattle.client_desk.specs.declared.desk.Asking.TheVariants as asking
 use Rattle.client_desk.specs.KeptTexts.{Answers, index_found, index_name, is_free, jobs_found, jobs_name}
 use Rattle.client_commands.specs.JobSyncs.{WorksSo}
 use Rattle.client_commands.specs.Views.{DeskView, DialView, OwnView}
 use Rattle.client_commands.specs.declared.wanted.Wanted.{Wanted}
+use Rattle.client_commands.specs.declared.wanted.Wanted.TheVariants.{Any, Empty}
 
 -- the index of a job that the client's own folder has, or why it has none
 abbrev pub index_at : Contents → Job → Result Index Fault
@@ -33,6 +36,11 @@ job_line lib (Ok s) = line.Synced lib s.head s.written s.removed s.conflict
 job_line lib (Err f) = line.Fault f
 
 -- ---- a job of the list
+
+-- the command that asks for its folder, of the two that name one
+abbrev pub asking_of : Wanted → Asking
+asking_of Any = asking.Sync
+asking_of Empty = asking.Download
 
 -- an index is read back from its text, where it is proper, as one that a sync left by a proper one is
 abbrev pub ReadsBack : Index → Type 0

@@ -10,11 +10,11 @@ ghost use Rattle.client_commands.specs.Runs.{DesyncDoes, InOwn, InitDoes, ListDo
 ghost use Rattle.client_commands.specs.Statuses.{StatusDoes};
 ghost use Rattle.client_commands.specs.Views.{desk_view, dial_view};
 
-use crate::folders::{give_folder, take_folder};
+use crate::folders::{give_folder, take_folder, take_marker};
 use crate::kept_syncs::sync_asked;
 use crate::statuses::statuses;
 use crate::wanted::Wanted;
-use client_desk::{Desk, desync, init, list};
+use client_desk::{Claim, Desk, desync, init, list};
 use client_words::{Fault, Job, Line};
 use ids::{Items, LibId, Text};
 use library_state::Clock;
@@ -28,12 +28,12 @@ pub(crate) fn init_at<D: Desk>(alloc: Global, desk: &mut D, conf: &Text) -> Resu
     ensures faults { DeskKeeps (desk_view D.has_place D.holds D.dials D.folder_faults D.dial_faults desk.old)
         (desk_view D.has_place D.holds D.dials D.folder_faults D.dial_faults desk.new) result }
 {
-    let mut folder = match take_folder(desk, conf) {
+    let mut folder = match take_folder(desk, conf, Claim::Own) {
         Ok(folder) => folder,
         Err(fault) => return Err(fault),
     };
     let done = init(alloc, &mut folder);
-    give_folder(desk, conf, folder);
+    give_folder(desk, conf, folder, false);
     done
 }
 
@@ -48,12 +48,12 @@ pub(crate) fn list_at<D: Desk>(
     ensures faults { DeskKeeps (desk_view D.has_place D.holds D.dials D.folder_faults D.dial_faults desk.old)
         (desk_view D.has_place D.holds D.dials D.folder_faults D.dial_faults desk.new) result }
 {
-    let mut folder = match take_folder(desk, conf) {
+    let mut folder = match take_folder(desk, conf, Claim::Own) {
         Ok(folder) => folder,
         Err(fault) => return Err(fault),
     };
     let lines = list(alloc, &mut folder);
-    give_folder(desk, conf, folder);
+    give_folder(desk, conf, folder, false);
     lines
 }
 
@@ -69,12 +69,13 @@ pub(crate) fn desync_at<D: Desk>(
     ensures faults { DeskKeeps (desk_view D.has_place D.holds D.dials D.folder_faults D.dial_faults desk.old)
         (desk_view D.has_place D.holds D.dials D.folder_faults D.dial_faults desk.new) result }
 {
-    let mut folder = match take_folder(desk, conf) {
+    let mut folder = match take_folder(desk, conf, Claim::Own) {
         Ok(folder) => folder,
         Err(fault) => return Err(fault),
     };
     let done = desync(alloc, &mut folder, dir);
-    give_folder(desk, conf, folder);
+    take_marker(desk, dir, &done);
+    give_folder(desk, conf, folder, false);
     done
 }
 
@@ -89,12 +90,12 @@ pub(crate) fn status_at<D: Desk>(
     ensures faults { DeskKeeps (desk_view D.has_place D.holds D.dials D.folder_faults D.dial_faults desk.old)
         (desk_view D.has_place D.holds D.dials D.folder_faults D.dial_faults desk.new) result }
 {
-    let mut folder = match take_folder(desk, conf) {
+    let mut folder = match take_folder(desk, conf, Claim::Own) {
         Ok(folder) => folder,
         Err(fault) => return Err(fault),
     };
     let lines = statuses(alloc, desk, &mut folder);
-    give_folder(desk, conf, folder);
+    give_folder(desk, conf, folder, false);
     lines
 }
 
@@ -113,11 +114,11 @@ pub(crate) fn sync_at<D: Desk, C: Clock>(
     ensures faults { DeskKeeps (desk_view D.has_place D.holds D.dials D.folder_faults D.dial_faults desk.old)
         (desk_view D.has_place D.holds D.dials D.folder_faults D.dial_faults desk.new) result }
 {
-    let mut folder = match take_folder(desk, conf) {
+    let mut folder = match take_folder(desk, conf, Claim::Own) {
         Ok(folder) => folder,
         Err(fault) => return Err(fault),
     };
     let synced = sync_asked(alloc, desk, &mut folder, asked, wanted, clock);
-    give_folder(desk, conf, folder);
+    give_folder(desk, conf, folder, false);
     synced
 }

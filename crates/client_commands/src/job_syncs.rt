@@ -12,7 +12,7 @@ use crate::dialled_server::DialledServer;
 use crate::folders::{give_folder, take_folder};
 use crate::sync_faults::told_of;
 use crate::wanted::Wanted;
-use client_desk::{Desk, fault_of_folder};
+use client_desk::{Claim, Desk, fault_of_folder};
 use client_words::{Fault, Job};
 use folder_side::{Folder, FolderFault, Item, ItemKind};
 use ids::Text;
@@ -29,6 +29,7 @@ pub(crate) fn sync_folder<D: Desk, C: Clock>(
     desk: &mut D,
     job: &Job,
     index: &mut Index,
+    claim: Claim,
     wanted: Wanted,
     clock: &C,
 ) -> Result<Synced, Fault>
@@ -43,12 +44,12 @@ pub(crate) fn sync_folder<D: Desk, C: Clock>(
         Ok(host) => host,
         Err(AllocError) => return Err(Fault::NoMemory),
     };
-    let mut folder = match take_folder(desk, &job.dir) {
+    let mut folder = match take_folder(desk, &job.dir, claim) {
         Ok(folder) => folder,
         Err(fault) => return Err(fault),
     };
     let synced = sync_open(alloc, desk, &mut folder, host, job, index, wanted, clock);
-    give_folder(desk, &job.dir, folder);
+    give_folder(desk, &job.dir, folder, synced.is_ok());
     synced
 }
 

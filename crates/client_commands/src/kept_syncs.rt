@@ -8,12 +8,15 @@ ghost use Rattle.client_desk.specs.Commands.{with_jobs};
 ghost use Rattle.client_desk.specs.JobList.{jobs_with};
 ghost use Rattle.client_desk.specs.KeptTexts.{is_free, is_of_folder};
 ghost use Rattle.client_commands.specs.Keeping.{OwnKeeps};
-ghost use Rattle.client_commands.specs.KeptSyncs.{SyncsAsked, SyncsListed, SyncsNew, job_line};
+ghost use Rattle.client_commands.specs.KeptSyncs.{SyncsAsked, SyncsListed, SyncsNew, asking_of, job_line};
 ghost use Rattle.client_commands.specs.Views.{desk_view, dial_view, own_view};
 
+use crate::folders::{claim_of, told_of_marker};
 use crate::job_syncs::sync_folder;
 use crate::wanted::Wanted;
-use client_desk::{Desk, index_in, job_due, jobs_in, jobs_with, put_index, put_jobs};
+use client_desk::{
+    Asking, Claim, Desk, index_in, job_due, jobs_in, jobs_with, put_index, put_jobs,
+};
 use client_words::{Fault, Job, Line};
 use folder_side::Folder;
 use ids::{Items, LibId};
@@ -49,9 +52,19 @@ pub(crate) fn sync_asked<D: Desk, C: Clock>(
         Err(fault) => return Err(fault),
     };
     if let Some(job) = found {
-        return sync_listed(alloc, desk, conf, job, wanted, clock);
+        return sync_listed(alloc, desk, conf, job, asking_of(wanted), wanted, clock);
     }
     sync_new(alloc, desk, conf, asked, jobs, wanted, clock)
+}
+
+/// Which command asks for the folder of a job whose sync wants this of it, where the words named that folder.
+fn asking_of(wanted: Wanted) -> Asking
+    ensures value { result ≡ asking_of wanted }
+{
+    match wanted {
+        Wanted::Any => Asking::Sync,
+        Wanted::Empty => Asking::Download,
+    }
 }
 
 /// Syncs a job of the list by its index, which is put again where the sync ended well.
@@ -60,6 +73,7 @@ pub(crate) fn sync_listed<D: Desk, C: Clock>(
     desk: &mut D,
     conf: &mut D::F,
     job: &Job,
+    asking: Asking,
     wanted: Wanted,
     clock: &C,
 ) -> Result<Synced, Fault>
@@ -75,12 +89,13 @@ pub(crate) fn sync_listed<D: Desk, C: Clock>(
         Ok(index) => index,
         Err(fault) => return Err(fault),
     };
-    let synced = match sync_folder(alloc, desk, job, &mut index, wanted, clock) {
+    let claim = claim_of(job, &index, asking);
+    let synced = match sync_folder(alloc, desk, job, &mut index, claim, wanted, clock) {
         Ok(synced) => synced,
         Err(fault) => return Err(fault),
     };
     match put_index(alloc, conf, &index) {
-        Ok(()) => Ok(synced),
+        Ok(()) => told_of_marker(desk, synced),
         Err(fault) => Err(fault),
     }
 }
@@ -104,7 +119,8 @@ fn sync_new<D: Desk, C: Clock>(
         (desk_view D.has_place D.holds D.dials D.folder_faults D.dial_faults desk.new) result }
 {
     let mut index = Index::empty(alloc, asked.lib);
-    let synced = match sync_folder(alloc, desk, &asked, &mut index, wanted, clock) {
+    let claim = Claim::New(asked.lib);
+    let synced = match sync_folder(alloc, desk, &asked, &mut index, claim, wanted, clock) {
         Ok(synced) => synced,
         Err(failed) => return Err(failed),
     };
@@ -112,7 +128,7 @@ fn sync_new<D: Desk, C: Clock>(
         return Err(fault);
     }
     match add_job(alloc, conf, asked, jobs) {
-        Ok(()) => Ok(synced),
+        Ok(()) => told_of_marker(desk, synced),
         Err(fault) => Err(fault),
     }
 }

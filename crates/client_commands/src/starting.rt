@@ -15,7 +15,7 @@ use crate::kept_syncs::{job_line, sync_listed};
 use crate::printing::{print_line, try_line};
 use crate::statuses::check_indexes;
 use crate::wanted::Wanted;
-use client_desk::{Desk, jobs_in};
+use client_desk::{Asking, Claim, Desk, jobs_in};
 use client_words::{Fault, Job, Line};
 use folder_side::Folder;
 use http_front::{LinkFailed, Sink};
@@ -41,12 +41,12 @@ pub(crate) fn start_at<D: Desk, C: Clock, O: Sink>(
         (desk_view D.has_place D.holds D.dials D.folder_faults D.dial_faults desk.new)
         (sink_view O.given O.faults out.old) (sink_view O.given O.faults out.new) result }
 {
-    let mut folder = match take_folder(desk, conf) {
+    let mut folder = match take_folder(desk, conf, Claim::Own) {
         Ok(folder) => folder,
         Err(fault) => return print_line(alloc, out, &Line::Fault(fault)),
     };
     let status = run_listed(alloc, desk, &mut folder, turns, clock, out);
-    give_folder(desk, conf, folder);
+    give_folder(desk, conf, folder, false);
     status
 }
 
@@ -164,6 +164,6 @@ fn run_job<D: Desk, C: Clock, O: Sink>(
         (record { own = own_view D.F.told D.F.faults conf.new; desk = desk_view D.has_place D.holds D.dials D.folder_faults D.dial_faults desk.new; out = sink_view O.given O.faults out.new }) result }
     ensures stays { D.has_place desk.new ≡ D.has_place desk.old }
 {
-    let synced = sync_listed(alloc, desk, conf, job, Wanted::Any, clock);
+    let synced = sync_listed(alloc, desk, conf, job, Asking::Start, Wanted::Any, clock);
     try_line(alloc, out, &job_line(job.lib, synced))
 }

@@ -7,10 +7,10 @@ ghost use Rattle.client_commands.specs.Keeping.{DeskKeeps, OwnKeeps, is_of_link}
 ghost use Rattle.client_commands.specs.Statuses.{FindsIndex, FindsIndexes, IsSameDesk, StatusDoes, TellsClean, TellsLine, TellsLines, clean_line};
 ghost use Rattle.client_commands.specs.Views.{desk_view, own_view};
 
-use crate::folders::{give_folder, take_folder};
+use crate::folders::{claim_of, give_folder, take_folder};
 use crate::sync_faults::told_of_scan;
 use crate::worktrees::is_clean;
-use client_desk::{Desk, index_in, jobs_in};
+use client_desk::{Asking, Desk, index_in, jobs_in};
 use client_words::{Fault, Job, Line};
 use folder_side::Folder;
 use ids::{Items, LibId};
@@ -146,11 +146,11 @@ fn compare<D: Desk>(alloc: Global, desk: &mut D, job: &Job, index: &Index) -> Re
     ensures faults { DeskKeeps (desk_view D.has_place D.holds D.dials D.folder_faults D.dial_faults desk.old)
         (desk_view D.has_place D.holds D.dials D.folder_faults D.dial_faults desk.new) result }
 {
-    let mut folder = match take_folder(desk, &job.dir) {
+    let mut folder = match take_folder(desk, &job.dir, claim_of(job, index, Asking::Status)) {
         Ok(folder) => folder,
         Err(fault) => return Err(fault),
     };
     let clean = is_clean(alloc, &mut folder, index);
-    give_folder(desk, &job.dir, folder);
+    give_folder(desk, &job.dir, folder, false);
     told_of_scan(clean)
 }

@@ -2,7 +2,7 @@
 use crate::closed_dial::{HOST, PORT};
 use crate::memory_desk::MemoryDesk;
 use client_commands::cli;
-use client_desk::{Desk, put_index, put_jobs};
+use client_desk::{Claim, Desk, put_index, put_jobs};
 use client_words::Job;
 use http_front::MemorySink;
 use ids::{Items, LibId, Text};
@@ -191,12 +191,12 @@ fn put_job(alloc: Global, desk: &mut MemoryDesk, job: Job) -> Result<bool, Alloc
     let lib = job.lib;
     let mut jobs = Items::new(alloc);
     jobs.push(job)?;
-    let Ok(mut conf) = desk.folder("conf") else {
+    let Ok(mut conf) = desk.folder("conf", Claim::Own) else {
         return Ok(false);
     };
     let done = put_jobs(alloc, &mut conf, jobs.slice()).is_ok()
         && put_index(alloc, &mut conf, &Index::empty(alloc, lib)).is_ok();
-    desk.give_back("conf", conf);
+    desk.give_back("conf", conf, false);
     Ok(done)
 }
 

@@ -4,10 +4,10 @@ ghost use Rattle.folder_side.specs.Folder.{FolderFails};
 ghost use Rattle.command_tests.specs.MemoryDesk.{chosen, contents_of, is_place};
 
 use crate::closed_dial::ClosedDial;
-use client_desk::Desk;
+use client_desk::{Claim, Desk};
 use folder_side::{FolderFault, MemoryFolder};
 use http_server::Log;
-use ids::Items;
+use ids::{Items, LibId};
 use std::alloc::Global;
 
 /// A desk with the folders `conf` and `work`, whose dials make no link. A folder of which a call failed is handed out no more.
@@ -58,7 +58,8 @@ impl Desk for MemoryDesk {
 
     ghost dial_faults = { λ desk. desk.dial_faults };
 
-    fn folder(&mut self, dir: &str) -> Result<MemoryFolder, FolderFault> {
+    fn folder(&mut self, dir: &str, claim: Claim) -> Result<MemoryFolder, FolderFault> {
+        let _ = claim;
         if dir == "conf" {
             return handed(&mut self.conf, &mut self.folder_faults);
         }
@@ -69,7 +70,8 @@ impl Desk for MemoryDesk {
         Err(FolderFault::Folder)
     }
 
-    fn give_back(&mut self, dir: &str, folder: MemoryFolder) {
+    fn give_back(&mut self, dir: &str, folder: MemoryFolder, is_synced: bool) {
+        let _ = is_synced;
         self.folder_faults = self.folder_faults.saturating_add(folder.faults());
         if dir == "conf" {
             put(&mut self.conf, folder);
@@ -78,6 +80,15 @@ impl Desk for MemoryDesk {
         if dir == "work" {
             put(&mut self.work, folder);
         }
+    }
+
+    fn check_marker(&mut self) -> Result<(), FolderFault> {
+        Ok(())
+    }
+
+    fn take_marker(&mut self, dir: &str, lib: &LibId) {
+        let _ = dir;
+        let _ = lib;
     }
 
     fn dial(&mut self) -> ClosedDial {

@@ -1,3 +1,4 @@
+pub mod CallLemmas
 pub mod FileReadLemmas
 pub mod FindingsLemmas
 pub mod ScanStepLemmas

@@ -5,7 +5,7 @@ use Rattle.block_chunker.specs.declared.cuts.Cuts.{Cuts}
 use Rattle.block_chunker.specs.ChunkBoundaries.{chunks_of}
 use Rattle.block_chunker.specs.ChunkerProgress.{start_of, after_piece, finished_by}
 use Rattle.folder_side.specs.declared.file_reader.ReadFault.{ReadFault}
-use Rattle.folder_side.specs.declared.file_reader.ReadFault.TheVariants.{Folder, TooBig, NoMemory}
+use Rattle.folder_side.specs.declared.file_reader.ReadFault.TheVariants.{Folder, TooBig, Gone, NoMemory}
 use Rattle.folder_side.specs.declared.file_reader.FileRead.{FileRead}
 use Rattle.folder_side.specs.declared.file_reader.Reading.{Reading}
 use Rattle.folder_side.specs.declared.file_reader.TheConstants.{MAX_FILE}
@@ -22,13 +22,15 @@ pub record ReadsFile (cuts : Cuts) (bytes : List ℕ) (file : FileRead) : Type 0
   pub size : file.size ≡ length bytes
   pub small : length bytes ≤ MAX_FILE
 
--- a file that is too big has more bytes than the limit
+-- a file that is too big has more bytes than the limit, and one that is there isn't gone
 abbrev pub PassesLimit : List ℕ → ReadFault → Type 0
 PassesLimit bytes Folder = Unit {0}
 PassesLimit bytes TooBig = MAX_FILE < length bytes
+PassesLimit bytes Gone = ⊥
 PassesLimit bytes NoMemory = Unit {0}
 
 abbrev pub is_read_failure : ReadFault → Bool
 is_read_failure Folder = true
 is_read_failure TooBig = false
+is_read_failure Gone = false
 is_read_failure NoMemory = false

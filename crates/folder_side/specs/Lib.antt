@@ -1,3 +1,4 @@
+pub mod Calls
 pub mod FileRead
 pub mod Findings
 pub mod Folder

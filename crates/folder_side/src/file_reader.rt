@@ -7,6 +7,7 @@ ghost use Rattle.block_chunker.specs.ChunkBoundaries.{last_chunk};
 ghost use Rattle.block_chunker.specs.ChunkerProgress.{after_piece, finished_by};
 ghost use Rattle.folder_side.specs.declared.holding.Holding.TheVariants.{File};
 ghost use Rattle.folder_side.specs.Folder.{Contents, at, is_folder_fault};
+ghost use Rattle.folder_side.specs.Calls.{ReadsAs, ReadsOn};
 ghost use Rattle.folder_side.specs.FileRead.{IsBehind, ReadsFile, PassesLimit, is_read_failure};
 ghost use Rattle.folder_side.specs.declared.folder_scan.TheConstants.{PIECE};
 ghost use Rattle.folder_side.specs.declared.file_reader.TheConstants.{MAX_FILE};
@@ -28,6 +29,8 @@ pub enum ReadFault {
     Folder,
     /// It has more than 274,877,906,944 bytes.
     TooBig,
+    /// Nothing stands at its path.
+    Gone,
     /// There was no memory.
     NoMemory,
 }
@@ -107,7 +110,7 @@ impl Reading {
     }
 }
 
-/// Reads a file from its start to its end and cuts it into chunks.
+/// Reads a file from its start to its end and cuts it into chunks. `Gone` where nothing stands at its path.
 ///
 /// The file is read in pieces that fit the buffer. No more of it is in memory than one chunk and two pieces.
 pub fn read_file<F: Folder>(
@@ -123,9 +126,15 @@ pub fn read_file<F: Folder>(
         IfOk result (ReadsFile cuts bytes) }
     ensures refused { (c : Contents) (bytes : List ℕ) → F.told folder.old ≡ Some c → at c file.now ≡ Some (File bytes) →
         IfErr result (PassesLimit bytes) }
+    ensures traced { ReadsAs cuts file.now (F.trace folder.old) (F.trace folder.new) result }
     ensures stays { (F.told folder.new ≡ F.told folder.old) × (F.spare folder.new ≡ F.spare folder.old) }
     ensures faults { FailsBy is_read_failure (F.faults folder.old) (F.faults folder.new) result }
 {
+    match folder.open_file(file) {
+        Ok(true) => {}
+        Ok(false) => return Err(ReadFault::Gone),
+        Err(fault) => return Err(read_fault(fault)),
+    }
     let reading = Reading::new(alloc, cuts);
     read_rest(alloc, folder, file, reading, buffer)
 }
@@ -146,6 +155,8 @@ fn read_rest<F: Folder>(
         IsBehind reading.chunker.cuts bytes reading → IfOk result (ReadsFile reading.chunker.cuts bytes) }
     ensures refused { (c : Contents) (bytes : List ℕ) → F.told folder.old ≡ Some c → at c file.now ≡ Some (File bytes) →
         IsBehind reading.chunker.cuts bytes reading → IfErr result (PassesLimit bytes) }
+    ensures traced { (before : List ℕ) → IsBehind reading.chunker.cuts before reading → reading.place ≡ length before →
+        ReadsOn reading.chunker.cuts file.now reading.place before (F.trace folder.old) (F.trace folder.new) result }
     ensures stays { (F.told folder.new ≡ F.told folder.old) × (F.spare folder.new ≡ F.spare folder.old) }
     ensures faults { FailsBy is_read_failure (F.faults folder.old) (F.faults folder.new) result }
 {

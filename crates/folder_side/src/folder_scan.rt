@@ -6,8 +6,8 @@ ghost use Rattle.ids.specs.FaultCount.{FailsBy};
 ghost use Rattle.folder_side.specs.declared.holding.Holding.{Holding};
 ghost use Rattle.folder_side.specs.declared.holding.Holding.TheVariants.{Dir, File};
 ghost use Rattle.block_chunker.specs.declared.cuts.Cuts.{Cuts};
-ghost use Rattle.folder_side.specs.FileRead.{PassesLimit, is_read_failure};
 ghost use Rattle.folder_side.specs.Folder.{Contents, IsFolder, at, kind_of, nameless_at, is_folder_fault};
+ghost use Rattle.folder_side.specs.Calls.{Glances};
 ghost use Rattle.folder_side.specs.Findings.{AreOf, Gives, Grows, KnowsNameless, HasTaken, HasTakenItem, HasScanned, Reports};
 ghost use Rattle.folder_side.specs.ScanReport.{IsScan, IsWithinLimits, IsPastLimit, is_scan_failure};
 ghost use Rattle.folder_side.specs.declared.folder_scan.TheConstants.{PIECE};
@@ -32,7 +32,7 @@ pub const PIECE: usize = 65_536;
 ///
 /// A file is read in pieces of at most 65,536 bytes, and no more of it is in memory than one chunk and two
 /// pieces. An entry that is neither a file nor a directory, such as a symbolic link, is never opened: it is
-/// listed in `skipped`. The folder itself or a directory in it is listed in `nameless` where it has entries
+/// listed in `skipped`. A file that is gone when it is opened, though its directory listed it, isn't there. The folder itself or a directory in it is listed in `nameless` where it has entries
 /// without a good name. The folder isn't changed.
 pub fn scan<F: Folder>(alloc: Global, folder: &mut F, cuts: Cuts) -> Result<Scan, ScanFault>
     ensures value { (c : Contents) → F.told folder.old ≡ Some c → IfOk result (IsScan cuts c) }
@@ -40,6 +40,7 @@ pub fn scan<F: Folder>(alloc: Global, folder: &mut F, cuts: Cuts) -> Result<Scan
     ensures refused { (c : Contents) → F.told folder.old ≡ Some c → IfErr result (IsPastLimit c) }
     ensures formed { (c : Contents) → F.told folder.old ≡ Some c → OnOk result (IsFolder c) }
     ensures stays { (F.told folder.new ≡ F.told folder.old) × (F.spare folder.new ≡ F.spare folder.old) }
+    ensures traced { Glances (F.trace folder.old) (F.trace folder.new) }
     ensures faults { FailsBy is_scan_failure (F.faults folder.old) (F.faults folder.new) result }
 {
     let mut buffer = match piece_buffer(alloc) {
@@ -83,6 +84,7 @@ fn scan_dir<F: Folder>(
         Gives c (IsFolder c × HasScanned cuts c dir.now found.old found.new) result }
     ensures few { OnOk result (map.len found.new.paths ≤ MAX_PATHS) }
     ensures stays { (F.told folder.new ≡ F.told folder.old) × (F.spare folder.new ≡ F.spare folder.old) }
+    ensures traced { Glances (F.trace folder.old) (F.trace folder.new) }
     ensures faults { FailsBy is_scan_failure (F.faults folder.old) (F.faults folder.new) result }
 {
     let listing = match folder.list(alloc, dir) {
@@ -122,6 +124,7 @@ fn scan_item<F: Folder>(
         Gives c (HasTakenItem cuts c (dir.now ++ item.now.name ∷ []) found.old found.new) result }
     ensures few { OnOk result (map.len found.new.paths ≤ MAX_PATHS) }
     ensures stays { (F.told folder.new ≡ F.told folder.old) × (F.spare folder.new ≡ F.spare folder.old) }
+    ensures traced { Glances (F.trace folder.old) (F.trace folder.new) }
     ensures faults { FailsBy is_scan_failure (F.faults folder.old) (F.faults folder.new) result }
 {
     let path = match dir.child(alloc, &item.name) {
@@ -177,7 +180,7 @@ fn note_if_nameless(
     }
 }
 
-/// Reads a file and notes its chunks.
+/// Reads a file and notes its chunks. One that is gone since it was listed isn't there.
 fn scan_file<F: Folder>(
     alloc: Global,
     cuts: Cuts,
@@ -193,6 +196,7 @@ fn scan_file<F: Folder>(
         at c path ≡ Some (File bytes) → Gives c (HasTaken cuts c path found.old found.new) result }
     ensures few { OnOk result (map.len found.new.paths ≤ MAX_PATHS) }
     ensures stays { (F.told folder.new ≡ F.told folder.old) × (F.spare folder.new ≡ F.spare folder.old) }
+    ensures traced { Glances (F.trace folder.old) (F.trace folder.new) }
     ensures faults { FailsBy is_scan_failure (F.faults folder.old) (F.faults folder.new) result }
 {
     if is_too_deep(&path) {
@@ -200,7 +204,10 @@ fn scan_file<F: Folder>(
     }
     match read_file(alloc, folder, &path, cuts, buffer) {
         Ok(file) => note_seen(found, path, seen_file(file)),
-        Err(fault) => Err(file_fault(fault, path)),
+        Err(ReadFault::Gone) => Ok(()),
+        Err(ReadFault::Folder) => Err(ScanFault::Folder),
+        Err(ReadFault::TooBig) => Err(ScanFault::TooBig(path)),
+        Err(ReadFault::NoMemory) => Err(ScanFault::NoMemory),
     }
 }
 
@@ -222,18 +229,6 @@ fn scan_fault(fault: FolderFault) -> ScanFault
     match fault {
         FolderFault::Folder => ScanFault::Folder,
         FolderFault::NoMemory => ScanFault::NoMemory,
-    }
-}
-
-/// The fault of a scan where a file was not read to its end.
-fn file_fault(fault: ReadFault, path: Path) -> ScanFault
-    ensures value { (c : Contents) (bytes : List ℕ) → at c path ≡ Some (File bytes) → PassesLimit bytes fault → IsPastLimit c result }
-    ensures faults { is_scan_failure result ≡ is_read_failure fault }
-{
-    match fault {
-        ReadFault::Folder => ScanFault::Folder,
-        ReadFault::TooBig => ScanFault::TooBig(path),
-        ReadFault::NoMemory => ScanFault::NoMemory,
     }
 }
 

@@ -14,6 +14,7 @@ mod folder;
 mod folder_scan;
 mod holding;
 pub mod laws;
+mod memory_bytes;
 mod memory_contents;
 mod memory_folder;
 mod scan_report;

@@ -1,6 +1,6 @@
 //! The files and directories of a folder in memory.
 
-ghost use Rattle.std.specs.Prelude.{◌≡◌, ◌≢◌, ◌↔◌, ◌++◌, true, IsTrue, Some, IfOk, OnOk, OnErr, option_copied};
+ghost use Rattle.std.specs.Prelude.{◌≡◌, ◌≢◌, ◌↔◌, ◌++◌, true, IsTrue, Some, is_some, IfOk, OnOk, OnErr, option_copied};
 ghost use Rattle.std.specs.Option.{option_map, option_to_list};
 ghost use Rattle.std.specs.List.{filter_map, list_any};
 ghost use Rattle.std.specs.FinMap as map;
@@ -81,6 +81,13 @@ impl MemoryContents {
         ensures value { option_map (λ bytes. bytes.now) result ≡ bytes_of (at self.now path.now) }
     {
         file_bytes(self.paths.get(path))
+    }
+
+    /// Whether anything stands at a path.
+    pub fn has(&self, path: &Path) -> bool
+        ensures value { result ≡ is_some (at self.now path.now) }
+    {
+        self.paths.get(path).is_some()
     }
 
     /// The kind of what stands at a path.

@@ -5,7 +5,7 @@ ghost use Rattle.std.specs.List.{list_any};
 ghost use Rattle.std.specs.Option.{option_map};
 ghost use Rattle.folder_side.specs.declared.error.FolderFault.TheVariants as fault;
 ghost use Rattle.ids.specs.Outcome.{Exactly};
-ghost use Rattle.folder_side.specs.Folder.{Contents, IsFolder, Changes, PartAt, listing_at, with_file, with_dir, with_holding, without, at, is_dir_at, kind_of, FolderFails, IsFree, TakesFile, IsRemovable, IsPart};
+ghost use Rattle.folder_side.specs.Folder.{Contents, IsFolder, Changes, PartAt, listing_at, with_file, with_dir, with_holding, without, at, is_dir_at, kind_of, FolderFails, IsFree, TakesFile, IsRemovable};
 ghost use Rattle.tree_model.specs.Path.{parent_of};
 ghost use Rattle.folder_side.specs.declared.holding.Holding.TheVariants.{File};
 ghost use Rattle.ids.specs.FaultCount.{counted};
@@ -14,6 +14,7 @@ ghost use Rattle.folder_side.specs.MemoryFolder.{nothing, bytes_of, with_nameles
 use crate::error::FolderFault;
 use crate::folder::{Ahead, Folder, ItemKind, Listing};
 use crate::holding::Holding;
+use crate::memory_bytes::{add_to, copy_part};
 use crate::memory_contents::MemoryContents;
 use ids::{Bytes, Items};
 use std::alloc::{AllocError, Global};
@@ -127,6 +128,8 @@ impl Folder for MemoryFolder {
 
     ghost faults = { λ folder. folder.faults };
 
+    ghost trace = { λ _. None };
+
     fn list(&mut self, alloc: Global, dir: &Path) -> Result<Listing, FolderFault>
         ensures formed { (c : Contents) → Some self.old.contents ≡ Some c → OnOk result (IsFolder c) }
         ensures listed { (c : Contents) → Some self.old.contents ≡ Some c → IfOk result (λ listing. Some listing ≡ listing_at c dir.now) }
@@ -171,6 +174,39 @@ impl Folder for MemoryFolder {
             return fail(self);
         }
         Ok(self.contents.kind(path))
+    }
+
+    fn open_file(&mut self, file: &Path) -> Result<bool, FolderFault>
+        ensures value { (c : Contents) → Some self.old.contents ≡ Some c → IfOk result (λ there. there ≡ is_some (at c file.now)) }
+        ensures stays { (Some self.new.contents ≡ Some self.old.contents) × (self.new.spare ≡ self.old.spare) }
+        ensures faults { FolderFails self.old.faults self.new.faults result }
+
+        // It fails exactly where it is to fail.
+        ensures folder { Exactly is_want result fault.Folder (IsTrue (fails_next self.old)) }
+        ensures ok { OnOk result (self.new ≡ after_call self.old) }
+        ensures err { IfErr result (λ e. self.new ≡ after_fault e self.old) }
+    {
+        if begin_call(self) {
+            return fail(self);
+        }
+        Ok(self.contents.has(file))
+    }
+
+    fn is_as_opened(&mut self, file: &Path) -> Result<bool, FolderFault>
+        ensures value { (c : Contents) → Some self.old.contents ≡ Some c → IfOk result (λ same. same ≡ true) }
+        ensures stays { (Some self.new.contents ≡ Some self.old.contents) × (self.new.spare ≡ self.old.spare) }
+        ensures faults { FolderFails self.old.faults self.new.faults result }
+
+        // It fails exactly where it is to fail.
+        ensures folder { Exactly is_want result fault.Folder (IsTrue (fails_next self.old)) }
+        ensures ok { OnOk result (self.new ≡ after_call self.old) }
+        ensures err { IfErr result (λ e. self.new ≡ after_fault e self.old) }
+    {
+        let _ = file;
+        if begin_call(self) {
+            return fail(self);
+        }
+        Ok(true)
     }
 
     fn read(&mut self, file: &Path, place: u64, into: &mut [u8]) -> Result<usize, FolderFault>
@@ -231,6 +267,22 @@ impl Folder for MemoryFolder {
             Ok(false) => fail(self),
             Err(AllocError) => Err(FolderFault::NoMemory),
         }
+    }
+
+    fn spare_sync(&mut self) -> Result<(), FolderFault>
+        ensures found { (c : Contents) → Some self.old.contents ≡ Some c → OnOk result (IsSome self.old.spare) }
+        ensures stays { (Some self.new.contents ≡ Some self.old.contents) × (self.new.spare ≡ self.old.spare) }
+        ensures faults { FolderFails self.old.faults self.new.faults result }
+
+        // It fails exactly where it is to fail, and where there is no spare.
+        ensures folder { Exactly is_want result fault.Folder (FailsIf self.old (self.old.spare ≡ None)) }
+        ensures ok { OnOk result (self.new ≡ after_call self.old) }
+        ensures err { IfErr result (λ e. self.new ≡ after_fault e self.old) }
+    {
+        if begin_call(self) || self.spare.is_none() {
+            return fail(self);
+        }
+        Ok(())
     }
 
     fn spare_move(&mut self, file: &Path) -> Result<(), FolderFault>
@@ -338,38 +390,5 @@ impl MemoryFolder {
     {
         let path = dir.copy(self.alloc)?;
         self.add(path, Holding::Dir)
-    }
-}
-
-/// Copies what fits of the bytes from a place on, and tells how many they are.
-fn copy_part(bytes: &[u8], place: u64, into: &mut [u8]) -> usize
-    requires some { 0 < length into.old }
-    ensures value { result ≡ min (length into.old) (length bytes.now - place) }
-    ensures part { IsPart bytes.now place result into.new }
-{
-    let from = bytes.len().min(place as usize);
-    let left = &bytes[from..];
-    let count = into.len().min(left.len());
-    into[..count].copy_from_slice(&left[..count]);
-    count
-}
-
-/// Appends to the spare, and tells whether there is one.
-fn add_to(spare: &mut Option<Bytes>, bytes: &[u8]) -> Result<bool, AllocError>
-    ensures value { IfOk result (λ done. done ≡ is_some spare.old) }
-    ensures ok { OnOk result (spare.new ≡ option_map (λ held. held ++ bytes.now) spare.old) }
-    ensures err { OnErr result (spare.new ≡ spare.old) }
-{
-    match spare.take() {
-        None => Ok(false),
-        Some(held) => {
-            let mut grown = held.into_vec();
-            let added = grown.extend_from_slice(bytes);
-            *spare = Some(Items::from_vec(grown));
-            match added {
-                Ok(()) => Ok(true),
-                Err(AllocError) => Err(AllocError),
-            }
-        }
     }
 }

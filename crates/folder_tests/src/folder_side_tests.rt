@@ -40,19 +40,36 @@ const FILES: [(&str, &[u8]); 3] = [("a-b", b"abc"), ("a/b", &[7; 100]), ("empty"
 /// Directories, and how many of their entries have no good name.
 const NAMELESS: [(&str, u64); 2] = [("d", 2), ("a", 1)];
 
-/// Adds all of these.
-fn fill(alloc: Global, folder: &mut MemoryFolder) -> Result<(), AllocError> {
+/// Adds the directories and links.
+fn add_dirs_and_links(alloc: Global, folder: &mut MemoryFolder) -> Result<(), AllocError> {
     for text in DIRS {
         let _ = add_dir(alloc, folder, text)?;
     }
     for text in LINKS {
         let _ = add_link(alloc, folder, text)?;
     }
+    Ok(())
+}
+
+/// Tells how many entries of a directory have no good name.
+fn set_nameless(
+    alloc: Global,
+    folder: &mut MemoryFolder,
+    text: &str,
+    count: u64,
+) -> Result<bool, AllocError> {
+    let path = path(alloc, text)?;
+    folder.set_nameless(path, count)
+}
+
+/// Adds all of these.
+fn fill(alloc: Global, folder: &mut MemoryFolder) -> Result<(), AllocError> {
+    add_dirs_and_links(alloc, folder)?;
     for (text, bytes) in FILES {
         let _ = add_file(alloc, folder, text, bytes)?;
     }
     for (text, count) in NAMELESS {
-        let _ = folder.set_nameless(path(alloc, text)?, count)?;
+        let _ = set_nameless(alloc, folder, text, count)?;
     }
     Ok(())
 }
@@ -61,8 +78,13 @@ fn fill(alloc: Global, folder: &mut MemoryFolder) -> Result<(), AllocError> {
 /// nameless entry, `d` a directory with two nameless entries.
 pub(crate) fn folder(alloc: Global, fails: &[u64]) -> Result<MemoryFolder, AllocError> {
     let mut folder = MemoryFolder::new(alloc, Items::copy(alloc, fails)?);
-    fill(alloc, &mut folder)?;
-    Ok(folder)
+    match fill(alloc, &mut folder) {
+        Ok(()) => Ok(folder),
+        Err(why) => {
+            drop(folder);
+            Err(why)
+        }
+    }
 }
 
 /// The paths' texts, each with a line feed.
@@ -127,7 +149,11 @@ fn scan_tells(
     nameless: &str,
 ) -> Result<bool, AllocError> {
     match scan(alloc, folder, cuts) {
-        Ok(scan) => Ok(tells(alloc, &scan, seen, skipped, nameless)? && folder.faults() == 0),
+        Ok(scan) => {
+            let told = tells(alloc, &scan, seen, skipped, nameless);
+            drop(scan);
+            Ok(told? && folder.faults() == 0)
+        }
         Err(_) => Ok(false),
     }
 }
@@ -143,10 +169,43 @@ fn tells_small_chunks(alloc: Global, folder: &mut MemoryFolder) -> Result<bool, 
     }
 }
 
+/// What a scan shows.
+#[derive(Clone, Copy)]
+enum Case {
+    /// Chunks, links and nameless entries.
+    Chunks,
+    /// A link, and the directory of a nameless entry.
+    Link,
+    /// A path that is too deep.
+    Depth,
+}
+
+fn folder_of(alloc: Global, case: Case) -> Result<MemoryFolder, AllocError> {
+    match case {
+        Case::Chunks => folder(alloc, &[]),
+        _ => Ok(MemoryFolder::new(alloc, Items::new(alloc))),
+    }
+}
+
+fn goes(alloc: Global, folder: &mut MemoryFolder, case: Case) -> Result<bool, AllocError> {
+    match case {
+        Case::Chunks => tells_small_chunks(alloc, folder),
+        Case::Link => tells_link_and_nameless(alloc, folder),
+        Case::Depth => is_refused_deeper(alloc, folder),
+    }
+}
+
+/// Whether that is shown of the folder of a case.
+fn shows(alloc: Global, case: Case) -> Result<bool, AllocError> {
+    let mut folder = folder_of(alloc, case)?;
+    let shown = goes(alloc, &mut folder, case);
+    drop(folder);
+    shown
+}
+
 #[test]
 fn a_scan_tells_chunks_links_and_nameless_entries(rt: HostRuntime) -> Result<(), AllocError> {
-    let mut folder = folder(rt.alloc(), &[])?;
-    assert!(rt; tells_small_chunks(rt.alloc(), &mut folder)?);
+    assert!(rt; shows(rt.alloc(), Case::Chunks)?);
     Ok(())
 }
 
@@ -155,7 +214,7 @@ fn tells_link_and_nameless(alloc: Global, folder: &mut MemoryFolder) -> Result<b
     Ok(
         add_link(alloc, folder, "l")?
             && add_dir(alloc, folder, "d")?
-            && folder.set_nameless(path(alloc, "d")?, 1)?
+            && set_nameless(alloc, folder, "d", 1)?
             && scan_tells(alloc, folder, Cuts::USUAL, "d directory\n", "l\n", "d\n")?,
     )
 }
@@ -164,19 +223,19 @@ fn tells_link_and_nameless(alloc: Global, folder: &mut MemoryFolder) -> Result<b
 fn a_link_is_skipped_and_a_nameless_entry_names_its_directory(
     rt: HostRuntime,
 ) -> Result<(), AllocError> {
-    let mut folder = MemoryFolder::new(rt.alloc(), Items::new(rt.alloc()));
-    assert!(rt; tells_link_and_nameless(rt.alloc(), &mut folder)?);
+    assert!(rt; shows(rt.alloc(), Case::Link)?);
     Ok(())
 }
 
 /// Whether a scan of a folder whose call of this number fails ends with a fault that is counted.
 fn ends_with_fault(alloc: Global, number: u64) -> Result<bool, AllocError> {
     let mut folder = folder(alloc, &[number])?;
-    let is_failed = matches!(
-        scan(alloc, &mut folder, Cuts::USUAL),
-        Err(ScanFault::Folder)
-    );
-    Ok(is_failed && folder.faults() == 1)
+    let told = scan(alloc, &mut folder, Cuts::USUAL);
+    let faults = folder.faults();
+    drop(folder);
+    let is_failed = matches!(&told, Err(ScanFault::Folder));
+    drop(told);
+    Ok(is_failed && faults == 1)
 }
 
 #[test]
@@ -197,10 +256,18 @@ fn deep(alloc: Global, above: u64) -> Result<String, AllocError> {
     Ok(text)
 }
 
+/// Adds a directory at that path.
+fn add_deep(alloc: Global, folder: &mut MemoryFolder, above: u64) -> Result<bool, AllocError> {
+    let text = deep(alloc, above)?;
+    let is_added = add_dir(alloc, folder, text.as_str());
+    drop(text);
+    is_added
+}
+
 /// Adds 100 directories, one in the other. The answer is whether each has a directory to stand in.
 fn add_chain(alloc: Global, folder: &mut MemoryFolder) -> Result<bool, AllocError> {
     for above in 0..100 {
-        if !add_dir(alloc, folder, deep(alloc, above)?.as_str())? {
+        if !add_deep(alloc, folder, above)? {
             return Ok(false);
         }
     }
@@ -219,6 +286,26 @@ fn is_too_deep(
     }
 }
 
+/// Whether a folder is scanned.
+fn is_scanned(alloc: Global, folder: &mut MemoryFolder) -> bool {
+    let told = scan(alloc, folder, Cuts::USUAL);
+    let is_scanned = told.is_ok();
+    drop(told);
+    is_scanned
+}
+
+/// Whether its scan is refused for this path.
+fn scan_is_too_deep(
+    alloc: Global,
+    folder: &mut MemoryFolder,
+    text: &str,
+) -> Result<bool, AllocError> {
+    let told = scan(alloc, folder, Cuts::USUAL);
+    let is_refused = is_too_deep(alloc, &told, text);
+    drop(told);
+    is_refused
+}
+
 /// Whether a file at this path can be added, and a scan is refused for it, which was not before.
 fn is_refused_for(
     alloc: Global,
@@ -226,19 +313,31 @@ fn is_refused_for(
     text: &str,
 ) -> Result<bool, AllocError> {
     Ok(
-        scan(alloc, folder, Cuts::USUAL).is_ok()
+        is_scanned(alloc, folder)
             && add_file(alloc, folder, text, b"")?
-            && is_too_deep(alloc, &scan(alloc, folder, Cuts::USUAL), text)?,
+            && scan_is_too_deep(alloc, folder, text)?,
     )
+}
+
+/// Whether a directory is refused that is deeper than a hundred others, one in the other.
+fn is_refused_deeper(alloc: Global, folder: &mut MemoryFolder) -> Result<bool, AllocError> {
+    let deeper = deep(alloc, 100)?;
+    let is_refused = is_refused_below(alloc, folder, deeper.as_str());
+    drop(deeper);
+    is_refused
+}
+
+/// The same of a file at this path.
+fn is_refused_below(
+    alloc: Global,
+    folder: &mut MemoryFolder,
+    text: &str,
+) -> Result<bool, AllocError> {
+    Ok(add_chain(alloc, folder)? && is_refused_for(alloc, folder, text)?)
 }
 
 #[test]
 fn a_path_of_more_than_100_names_is_too_deep(rt: HostRuntime) -> Result<(), AllocError> {
-    let alloc = rt.alloc();
-    let deeper = deep(alloc, 100)?;
-    let mut folder = MemoryFolder::new(alloc, Items::new(alloc));
-    assert!(rt;
-        add_chain(alloc, &mut folder)? && is_refused_for(alloc, &mut folder, deeper.as_str())?
-    );
+    assert!(rt; shows(rt.alloc(), Case::Depth)?);
     Ok(())
 }

@@ -46,14 +46,37 @@ fn is_taken(alloc: Global, folder: &mut MemoryFolder, name: &Name) -> bool {
         && take_text(alloc, folder, name).is_ok()
 }
 
+/// Whether a text of seventy thousand bytes is put and taken so.
+fn is_put_and_taken(
+    alloc: Global,
+    folder: &mut MemoryFolder,
+    name: &Name,
+) -> Result<bool, AllocError> {
+    let long = vec![in alloc; 7u8; 70_000]?;
+    let put = is_put(alloc, folder, name, long.as_slice());
+    drop(long);
+    Ok(is_taken(alloc, folder, name) && put)
+}
+
+/// The same of a text of this name.
+fn takes_long(alloc: Global, folder: &mut MemoryFolder, text: &str) -> Result<bool, AllocError> {
+    let name = name(alloc, text)?;
+    let taken = is_put_and_taken(alloc, folder, &name);
+    drop(name);
+    taken
+}
+
+/// The same in a new folder.
+fn shows_long(alloc: Global) -> Result<bool, AllocError> {
+    let mut folder = folder(alloc, &[])?;
+    let shown = takes_long(alloc, &mut folder, "seaf.json");
+    drop(folder);
+    shown
+}
+
 #[test]
 fn text_longer_than_a_piece_is_put_read_and_taken(rt: HostRuntime) -> Result<(), AllocError> {
-    let mut folder = folder(rt.alloc(), &[])?;
-    let name = name(rt.alloc(), "seaf.json")?;
-    let long = vec![in rt.alloc(); 7u8; 70_000]?;
-    let put = is_put(rt.alloc(), &mut folder, &name, long.as_slice());
-    let taken = is_taken(rt.alloc(), &mut folder, &name);
-    assert!(rt; put && taken);
+    assert!(rt; shows_long(rt.alloc())?);
     Ok(())
 }
 
@@ -68,19 +91,27 @@ fn is_told(
     there: bool,
 ) -> Result<bool, AllocError> {
     let name = name(alloc, text)?;
-    if there {
-        Ok(has(alloc, folder, &name, b"abc"))
+    let told = if there {
+        has(alloc, folder, &name, b"abc")
     } else {
-        Ok(has_none(alloc, folder, &name))
-    }
+        has_none(alloc, folder, &name)
+    };
+    drop(name);
+    Ok(told)
+}
+
+/// The same of a new folder.
+fn is_told_anew(alloc: Global, text: &str, there: bool) -> Result<bool, AllocError> {
+    let mut folder = folder(alloc, &[])?;
+    let told = is_told(alloc, &mut folder, text, there);
+    drop(folder);
+    told
 }
 
 #[test]
 fn directory_or_link_is_no_text(rt: HostRuntime) -> Result<(), AllocError> {
-    let mut folder = folder(rt.alloc(), &[])?;
     for (text, there) in NAMES {
-        let told = is_told(rt.alloc(), &mut folder, text, there)?;
-        assert!(rt; told, "{text}");
+        assert!(rt; is_told_anew(rt.alloc(), text, there)?, "{text}");
     }
     Ok(())
 }

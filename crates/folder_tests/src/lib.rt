@@ -11,7 +11,14 @@ mod folder_texts_tests;
 mod local_folder_tests;
 #[cfg(test)]
 mod local_index_tests;
+mod made;
 #[cfg(test)]
 mod memory_folder_tests;
+#[cfg(test)]
+mod opened_file_tests;
+#[cfg(test)]
+mod scratch;
+#[cfg(test)]
+mod told_folder;
 #[cfg(test)]
 mod turned_calls;

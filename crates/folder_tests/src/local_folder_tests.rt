@@ -1,46 +1,13 @@
 //! A folder of the file system: what stands in it, what its calls change, and what a link in it leads to.
 use crate::folder_side_tests::path;
 use crate::memory_folder_tests::{reads, write};
-use crate::turned_calls::{Turn, TurnedCalls};
+use crate::scratch::{has, is_opened, is_there, put_file, scratch, turned, within, work};
+use crate::turned_calls::Turn;
 use folder_side::{Folder, ItemKind, Listing};
-use local_folder::{LocalFolder, Permissions, SystemDirectories};
 use std::alloc::{AllocError, Global};
 use std::test::Fail;
-use std::{env, fs, io, process};
+use std::{fs, io};
 use tree_model::Path;
-
-/// A folder of this test's own, with the folder `work`, in which are the file `a` of the bytes `abc`, the directory `d` with
-/// `d/f` of `def`, and a link `l` that leads to `d`; beside it the folder `outside` with `f` of `spy`.
-fn scratch(rt: &HostRuntime, name: &str) -> io::Result<String> {
-    let temporary = env::temp_dir(rt)?;
-    let number = process::id(rt.process());
-    let place = format!(in rt.alloc(); "{}/folder_tests-{number}-{name}", temporary.as_str())?;
-    fs::create_dir(rt, place.as_str())?;
-    fill(rt, place.as_str())?;
-    Ok(place)
-}
-
-/// Makes what stands in it.
-fn fill(rt: &HostRuntime, place: &str) -> io::Result<()> {
-    for dir in ["outside", "work", "work/d"] {
-        fs::create_dir(rt, within(rt, place, dir)?.as_str())?;
-    }
-    for (file, text) in [("outside/f", "spy"), ("work/a", "abc"), ("work/d/f", "def")] {
-        fs::write(rt, within(rt, place, file)?.as_str(), text)?;
-    }
-    std::os::unix::fs::symlink(rt, "d", within(rt, place, "work/l")?.as_str())
-}
-
-/// The path of something in a folder.
-fn within(rt: &HostRuntime, place: &str, name: &str) -> io::Result<String> {
-    Ok(format!(in rt.alloc(); "{place}/{name}")?)
-}
-
-/// The folder `work`, opened.
-fn work(rt: &HostRuntime, place: &str) -> io::Result<LocalFolder<SystemDirectories<HostRuntime>>> {
-    let calls = SystemDirectories::new(rt.clone()?, Permissions::Usual);
-    LocalFolder::open(calls, within(rt, place, "work")?.as_str())
-}
 
 /// The kind of the item of a name, told by a letter; `-` where there is none.
 fn letter(listing: &Listing, name: &str) -> &'static str {
@@ -67,10 +34,24 @@ fn are_all(listing: &Listing) -> bool {
 /// Whether the root has just these three entries.
 fn lists<F: Folder>(alloc: Global, folder: &mut F) -> Result<bool, AllocError> {
     let root = Path::root(alloc);
-    match folder.list(alloc, &root) {
-        Ok(listing) => Ok(are_all(&listing)),
+    let told = folder.list(alloc, &root);
+    drop(root);
+    match told {
+        Ok(listing) => {
+            let are_all = are_all(&listing);
+            drop(listing);
+            Ok(are_all)
+        }
         Err(_) => Ok(false),
     }
+}
+
+/// Whether a directory is listed.
+fn is_listed<F: Folder>(alloc: Global, folder: &mut F, dir: &Path) -> bool {
+    let told = folder.list(alloc, dir);
+    let is_listed = told.is_ok();
+    drop(told);
+    is_listed
 }
 
 /// What is done with a path.
@@ -97,15 +78,17 @@ fn goes<F: Folder>(
     text: &str,
 ) -> Result<bool, AllocError> {
     let path = path(alloc, text)?;
-    Ok(match step {
-        Step::List => folder.list(alloc, &path).is_ok(),
+    let is_done = match step {
+        Step::List => is_listed(alloc, folder, &path),
         Step::Look(kind) => folder.look(&path) == Ok(kind),
         Step::Make => folder.make_dir(&path).is_ok(),
         Step::Remove => folder.remove(&path).is_ok(),
         Step::Write => write(folder, &path, b"new").is_ok(),
         Step::ReadOld => reads(folder, &path, 0, b"def"),
         Step::ReadNew => reads(folder, &path, 0, b"new"),
-    })
+    };
+    drop(path);
+    Ok(is_done)
 }
 
 /// Steps one after another, and whether each is done. None is that would go through the link, or to where the spare stands.
@@ -172,7 +155,9 @@ fn first_wrong<F: Folder>(alloc: Global, folder: &mut F) -> Result<&'static str,
 /// That of the folder `work`.
 fn first_wrong_at(rt: &HostRuntime, place: &str) -> io::Result<&'static str> {
     let mut folder = work(rt, place)?;
-    Ok(first_wrong(rt.alloc(), &mut folder)?)
+    let wrong = first_wrong(rt.alloc(), &mut folder);
+    drop(folder);
+    Ok(wrong?)
 }
 
 #[test]
@@ -184,27 +169,18 @@ fn a_folder_of_the_file_system_is_read_and_changed(rt: HostRuntime) -> Result<()
     Ok(())
 }
 
-/// Whether something stands in the place.
-fn is_there(rt: &HostRuntime, place: &str, name: &str) -> io::Result<bool> {
-    fs::exists(rt, within(rt, place, name)?.as_str())
-}
-
 /// Whether the folder can't be opened while it is open, and the spare is gone then.
 fn is_alone(rt: &HostRuntime, place: &str) -> io::Result<bool> {
     let folder = work(rt, place)?;
-    let is_locked = work(rt, place).is_err();
+    let is_locked = !is_opened(rt, place);
     let faults = folder.end();
     Ok(is_locked && faults == 0 && !is_there(rt, place, "work/.seaf-cli.spare")?)
 }
 
 /// The same where a run that was killed left a spare, and whether the folder is opened again after it.
 fn is_opened_once(rt: &HostRuntime, place: &str) -> io::Result<bool> {
-    fs::write(
-        rt,
-        within(rt, place, "work/.seaf-cli.spare")?.as_str(),
-        "left",
-    )?;
-    Ok(is_alone(rt, place)? && work(rt, place).is_ok())
+    put_file(rt, place, "work/.seaf-cli.spare", "left")?;
+    Ok(is_alone(rt, place)? && is_opened(rt, place))
 }
 
 #[test]
@@ -219,15 +195,35 @@ fn one_client_at_a_time_has_a_folder(rt: HostRuntime) -> Result<(), Fail> {
 /// Whether a listing of the root is an answer, or a look at this entry of it.
 fn tells_something<F: Folder>(alloc: Global, folder: &mut F, entry: &Path) -> bool {
     let root = Path::root(alloc);
-    folder.list(alloc, &root).is_ok() || folder.look(entry).is_ok()
+    let tells = is_listed(alloc, folder, &root) || folder.look(entry).is_ok();
+    drop(root);
+    tells
 }
 
-/// Whether a folder that was removed tells something.
+/// Removes the folder `work`.
+fn remove_work(rt: &HostRuntime, place: &str) -> io::Result<()> {
+    let path = within(rt, place, "work")?;
+    let removed = fs::remove_dir_all(rt, path.as_str());
+    drop(path);
+    removed
+}
+
+/// Whether a folder that was removed tells something, of this entry too.
+fn tells_removed(rt: &HostRuntime, place: &str, entry: &Path) -> io::Result<bool> {
+    let mut folder = work(rt, place)?;
+    let removed = remove_work(rt, place);
+    let tells = tells_something(rt.alloc(), &mut folder, entry);
+    drop(folder);
+    removed?;
+    Ok(tells)
+}
+
+/// The same of the entry `a`.
 fn tells_once_removed(rt: &HostRuntime, place: &str) -> io::Result<bool> {
     let entry = path(rt.alloc(), "a")?;
-    let mut folder = work(rt, place)?;
-    fs::remove_dir_all(rt, within(rt, place, "work")?.as_str())?;
-    Ok(tells_something(rt.alloc(), &mut folder, &entry))
+    let tells = tells_removed(rt, place, &entry);
+    drop(entry);
+    tells
 }
 
 #[test]
@@ -239,18 +235,6 @@ fn a_folder_that_was_removed_is_no_empty_folder(rt: HostRuntime) -> Result<(), F
     Ok(())
 }
 
-/// The folder `work` over calls of which one is turned.
-fn turned(
-    rt: &HostRuntime,
-    place: &str,
-    turn: Turn,
-    at: u64,
-) -> io::Result<LocalFolder<TurnedCalls<SystemDirectories<HostRuntime>>>> {
-    let calls = SystemDirectories::new(rt.clone()?, Permissions::Usual);
-    let calls = TurnedCalls::new(calls, rt.clone()?, rt.alloc(), place, turn, at)?;
-    LocalFolder::open(calls, within(rt, place, "work")?.as_str())
-}
-
 /// Reads a file and writes it, and tells whether what was read isn't what stands outside.
 fn reads_inside<F: Folder>(folder: &mut F, file: &Path) -> bool {
     let is_outside = reads(folder, file, 0, b"spy");
@@ -258,22 +242,25 @@ fn reads_inside<F: Folder>(folder: &mut F, file: &Path) -> bool {
     !is_outside
 }
 
-/// The same of the file `d/f` over such calls, where the folder can be opened.
-fn reads_turned(rt: &HostRuntime, place: &str, turn: Turn, at: u64) -> io::Result<bool> {
-    let file = path(rt.alloc(), "d/f")?;
+/// The same over such calls, where the folder can be opened.
+fn reads_file_turned(rt: &HostRuntime, place: &str, turn: Turn, at: u64, file: &Path) -> bool {
     match turned(rt, place, turn, at) {
         Ok(folder) => {
             let mut folder = folder;
-            Ok(reads_inside(&mut folder, &file))
+            let is_inside = reads_inside(&mut folder, file);
+            drop(folder);
+            is_inside
         }
-        Err(_) => Ok(true),
+        Err(_) => true,
     }
 }
 
-/// Whether a file has this text.
-fn has(rt: &HostRuntime, place: &str, name: &str, wanted: &str) -> io::Result<bool> {
-    let text = fs::read_to_string(rt, within(rt, place, name)?.as_str())?;
-    Ok(text.as_str() == wanted)
+/// The same of the file `d/f`.
+fn reads_turned(rt: &HostRuntime, place: &str, turn: Turn, at: u64) -> io::Result<bool> {
+    let file = path(rt.alloc(), "d/f")?;
+    let is_inside = reads_file_turned(rt, place, turn, at, &file);
+    drop(file);
+    Ok(is_inside)
 }
 
 /// Whether the file outside still has its bytes, and the one in the folder its old or its new ones, wherever its directory
@@ -294,8 +281,15 @@ fn stand_whole(rt: &HostRuntime, place: &str) -> io::Result<bool> {
 /// this number of calls.
 fn stays_inside(rt: &HostRuntime, name: &str, turn: Turn, at: u64) -> io::Result<bool> {
     let place = scratch(rt, name)?;
-    let is_right = reads_turned(rt, place.as_str(), turn, at)? && stand_whole(rt, place.as_str())?;
-    fs::remove_dir_all(rt, place.as_str())?;
+    let is_right = stays_inside_at(rt, place.as_str(), turn, at);
+    drop(place);
+    is_right
+}
+
+/// The same of what stands at a place, which is removed then.
+fn stays_inside_at(rt: &HostRuntime, place: &str, turn: Turn, at: u64) -> io::Result<bool> {
+    let is_right = reads_turned(rt, place, turn, at)? && stand_whole(rt, place)?;
+    fs::remove_dir_all(rt, place)?;
     Ok(is_right)
 }
 
@@ -328,23 +322,38 @@ fn a_call_that_fails_leaves_the_old_or_the_new(rt: HostRuntime) -> Result<(), Fa
 
 /// Whether only `a` stands there and no file `A` takes its place where both names find one file, and `a` is replaced all the
 /// same.
+fn keeps_small<F: Folder>(folder: &mut F, small: &Path, large: &Path) -> bool {
+    folder.look(large) == Ok(None)
+        && folder.look(small) == Ok(Some(ItemKind::File))
+        && write(folder, large, b"big").is_err()
+        && reads(folder, small, 0, b"abc")
+        && write(folder, small, b"new").is_ok()
+        && reads(folder, small, 0, b"new")
+}
+
+/// The same with the paths of both.
 fn keeps_both<F: Folder>(alloc: Global, folder: &mut F) -> Result<bool, AllocError> {
     let small = path(alloc, "a")?;
-    let large = path(alloc, "A")?;
-    Ok(
-        folder.look(&large) == Ok(None)
-            && folder.look(&small) == Ok(Some(ItemKind::File))
-            && write(folder, &large, b"big").is_err()
-            && reads(folder, &small, 0, b"abc")
-            && write(folder, &small, b"new").is_ok()
-            && reads(folder, &small, 0, b"new"),
-    )
+    match path(alloc, "A") {
+        Ok(large) => {
+            let is_kept = keeps_small(folder, &small, &large);
+            drop(small);
+            drop(large);
+            Ok(is_kept)
+        }
+        Err(why) => {
+            drop(small);
+            Err(why)
+        }
+    }
 }
 
 /// The same of the folder `work`.
 fn keeps_both_at(rt: &HostRuntime, place: &str) -> io::Result<bool> {
     let mut folder = turned(rt, place, Turn::Fold, 0)?;
-    Ok(keeps_both(rt.alloc(), &mut folder)?)
+    let is_kept = keeps_both(rt.alloc(), &mut folder);
+    drop(folder);
+    Ok(is_kept?)
 }
 
 #[test]

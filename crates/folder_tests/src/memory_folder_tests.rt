@@ -66,10 +66,17 @@ fn first_written_otherwise(
     Ok("")
 }
 
+/// The same of a folder of which that call fails.
+fn first_written_wrong(alloc: Global) -> Result<&'static str, AllocError> {
+    let mut folder = folder(alloc, &[0])?;
+    let case = first_written_otherwise(alloc, &mut folder);
+    drop(folder);
+    case
+}
+
 #[test]
 fn files_are_written_in_place_of_files_alone(rt: HostRuntime) -> Result<(), AllocError> {
-    let mut folder = folder(rt.alloc(), &[0])?;
-    let case = first_written_otherwise(rt.alloc(), &mut folder)?;
+    let case = first_written_wrong(rt.alloc())?;
     assert!(rt; case.is_empty(), "{case}");
     Ok(())
 }
@@ -82,11 +89,36 @@ fn keeps_without_spare(folder: &mut MemoryFolder, file: &Path) -> bool {
         && reads(folder, file, 0, b"abc")
 }
 
+/// What is looked at of the file `a-b`.
+#[derive(Clone, Copy)]
+enum Look {
+    /// Whether it stays without a spare.
+    Spare,
+    /// Whether it is read up to its end.
+    End,
+}
+
+/// Whether that is so of a new folder, at this path.
+fn shows_at(alloc: Global, look: Look, file: &Path) -> Result<bool, AllocError> {
+    let mut folder = folder(alloc, &[])?;
+    let shown = match look {
+        Look::Spare => keeps_without_spare(&mut folder, file),
+        Look::End => reads_to_the_end(&mut folder, file),
+    };
+    drop(folder);
+    Ok(shown)
+}
+
+fn shows(alloc: Global, look: Look) -> Result<bool, AllocError> {
+    let file = path(alloc, "a-b")?;
+    let shown = shows_at(alloc, look, &file);
+    drop(file);
+    shown
+}
+
 #[test]
 fn a_spare_that_is_not_there_is_not_moved(rt: HostRuntime) -> Result<(), AllocError> {
-    let file = path(rt.alloc(), "a-b")?;
-    let mut folder = folder(rt.alloc(), &[])?;
-    assert!(rt; keeps_without_spare(&mut folder, &file));
+    assert!(rt; shows(rt.alloc(), Look::Spare)?);
     Ok(())
 }
 
@@ -100,9 +132,7 @@ fn reads_to_the_end(folder: &mut MemoryFolder, file: &Path) -> bool {
 
 #[test]
 fn files_are_read_up_to_their_end(rt: HostRuntime) -> Result<(), AllocError> {
-    let file = path(rt.alloc(), "a-b")?;
-    let mut folder = folder(rt.alloc(), &[])?;
-    assert!(rt; reads_to_the_end(&mut folder, &file));
+    assert!(rt; shows(rt.alloc(), Look::End)?);
     Ok(())
 }
 
@@ -116,25 +146,45 @@ const LOOKS: [(&str, Result<Option<ItemKind>, FolderFault>); 6] = [
     ("x/y", Err(FolderFault::Folder)),
 ];
 
+/// Whether a look at a path finds this, or is refused so.
+fn looks(
+    alloc: Global,
+    folder: &mut MemoryFolder,
+    text: &str,
+    found: Result<Option<ItemKind>, FolderFault>,
+) -> Result<bool, AllocError> {
+    let path = path(alloc, text)?;
+    let is_found = folder.look(&path) == found;
+    drop(path);
+    Ok(is_found)
+}
+
 /// The path of the first of these that is looked at otherwise; no text where none is.
 fn first_looked_otherwise(
     alloc: Global,
     folder: &mut MemoryFolder,
 ) -> Result<&'static str, AllocError> {
     for (text, found) in LOOKS {
-        let path = path(alloc, text)?;
-        if folder.look(&path) != found {
+        if !looks(alloc, folder, text, found)? {
             return Ok(text);
         }
     }
     Ok("")
 }
 
+/// The same of a new folder, and how often it failed.
+fn first_looked_wrong(alloc: Global) -> Result<(&'static str, u64), AllocError> {
+    let mut folder = folder(alloc, &[])?;
+    let text = first_looked_otherwise(alloc, &mut folder);
+    let faults = folder.faults();
+    drop(folder);
+    Ok((text?, faults))
+}
+
 #[test]
 fn one_path_is_looked_at(rt: HostRuntime) -> Result<(), AllocError> {
-    let mut folder = folder(rt.alloc(), &[])?;
-    let text = first_looked_otherwise(rt.alloc(), &mut folder)?;
-    assert!(rt; text.is_empty() && folder.faults() == 2, "{text}");
+    let (text, faults) = first_looked_wrong(rt.alloc())?;
+    assert!(rt; text.is_empty() && faults == 2, "{text}");
     Ok(())
 }
 
@@ -192,7 +242,11 @@ fn has_entries(
     nameless: u64,
 ) -> bool {
     match folder.list(alloc, dir) {
-        Ok(listing) => listing.items.len() == good && listing.nameless == nameless,
+        Ok(listing) => {
+            let is_so = listing.items.len() == good && listing.nameless == nameless;
+            drop(listing);
+            is_so
+        }
         Err(_) => false,
     }
 }
@@ -200,14 +254,32 @@ fn has_entries(
 /// Whether so many calls failed, and what is left is there.
 fn is_left(alloc: Global, folder: &mut MemoryFolder) -> Result<bool, AllocError> {
     let dir = path(alloc, "a")?;
-    Ok(folder.faults() == 5 && folder.paths().len() == 6 && has_entries(alloc, folder, &dir, 2, 1))
+    let has_entries = has_entries(alloc, folder, &dir, 2, 1);
+    drop(dir);
+    Ok(folder.faults() == 5 && folder.paths().len() == 6 && has_entries)
+}
+
+/// The path of the first change that goes otherwise, and whether what is left is there.
+fn changed_and_left(
+    alloc: Global,
+    folder: &mut MemoryFolder,
+) -> Result<(&'static str, bool), AllocError> {
+    let text = first_changed_otherwise(alloc, folder)?;
+    Ok((text, is_left(alloc, folder)?))
+}
+
+/// The same of a new folder.
+fn first_changed_wrong(alloc: Global) -> Result<(&'static str, bool), AllocError> {
+    let mut folder = folder(alloc, &[])?;
+    let told = changed_and_left(alloc, &mut folder);
+    drop(folder);
+    told
 }
 
 #[test]
 fn directories_are_made_and_empty_ones_removed(rt: HostRuntime) -> Result<(), AllocError> {
-    let mut folder = folder(rt.alloc(), &[])?;
-    let text = first_changed_otherwise(rt.alloc(), &mut folder)?;
+    let (text, is_left) = first_changed_wrong(rt.alloc())?;
     assert!(rt; text.is_empty(), "{text}");
-    assert!(rt; is_left(rt.alloc(), &mut folder)?);
+    assert!(rt; is_left);
     Ok(())
 }

@@ -2,7 +2,7 @@
 //! small letters.
 ghost use Rattle.std.specs.Prelude.{◌≡◌, ◌≤◌, IfOk, IsTrue, length};
 
-use local_folder::{DirectoryCalls, EntryKind, EntryNames};
+use local_folder::{DirectoryCalls, EntryKind, EntryNames, FileStamp};
 use std::alloc::{AllocError, Global};
 use std::io::ErrorKind;
 use std::{fs, io};
@@ -145,6 +145,16 @@ impl<C: DirectoryCalls + Drop> DirectoryCalls for TurnedCalls<C> {
     fn open_file(&mut self, dir: &C::Dir, name: &str) -> io::Result<C::File> {
         self.pass()?;
         self.calls.open_file(dir, name)
+    }
+
+    fn stamp(&mut self, file: &C::File) -> io::Result<FileStamp> {
+        self.pass()?;
+        self.calls.stamp(file)
+    }
+
+    fn stamp_at(&mut self, dir: &C::Dir, name: &str) -> io::Result<FileStamp> {
+        self.pass()?;
+        self.calls.stamp_at(dir, name)
     }
 
     fn read(&mut self, file: &mut C::File, place: u64, into: &mut [u8]) -> io::Result<usize> {

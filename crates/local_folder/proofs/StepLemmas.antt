@@ -1,8 +1,10 @@
--- What steps after steps come to. The key lemmas are first-failed, more-done, last-done and none-done.
-use Rattle.std.proofs.Common.{◌≡◌, ◌⊎◌, inl, inr, ℕ, List, [], ◌∷◌, ◌++◌, Option, None, Some, Result, Ok, Err, refl, sym, ◌∙◌, ap, subst}
+-- What steps after steps come to. The key lemmas are first-failed, more-done, last-done, none-done,
+-- small-put, small-unmade, stopped-after, done-after and small-named; kept_synced, synced_so, moves_synced, moves_now and moves_stopped.
+use Rattle.std.proofs.Common.{◌≡◌, ◌⊎◌, inl, inr, ℕ, true≢false, Bool, true, false, List, [], ◌∷◌, ◌++◌, Option, None, Some, Result, Ok, Err, refl, sym, ◌∙◌, ap, subst}
 use Rattle.std.proofs.lemmas.List.{append_assoc, append-nil}
+use Rattle.std.specs.Prelude.{IsTrue, is_ok}
 use Rattle.tree_model.specs.Path.{PathV, parent_of}
-use Rattle.local_folder.specs.Steps.{Step, Created, Removed, with_steps, Does, DoesAll, Empties, StopsIn, spare_path}
+use Rattle.local_folder.specs.Steps.{Step, Created, Removed, SyncedFile, with_steps, Does, DoesAll, Empties, MovesIn, PutsSmall, StopsIn, ends_in_sync, filled_small, has_sync_last, is_so_synced, moved_in, spare_path}
 
 -- these steps, and then those
 pub steps-more : (told : Option (List Step)) (a b : List Step) → with_steps (with_steps told a) b ≡ with_steps told (a ++ b)
@@ -81,3 +83,77 @@ on-path steps_of above names name old mid new result split stays done =
     let parent : above ≡ parent_of names = sym (ap parent_of split ∙ parent-last above name) in
     subst (λ p. DoesAll (steps_of p names) old new result) parent
     (subst (λ n. DoesAll (steps_of above n) old new result) (sym split) (subst (λ m. DoesAll (steps_of above (above ++ name ∷ [])) m new result) stays done))
+
+-- ---- the sync that is the last step
+
+last_is_sync : (steps : List Step) → has_sync_last (steps ++ SyncedFile ∷ []) ≡ true
+last_is_sync [] = refl
+last_is_sync (step ∷ []) = refl
+last_is_sync (step ∷ next ∷ more) = last_is_sync (next ∷ more)
+
+ends_so : (told : Option (List Step)) → ends_in_sync (with_steps told (SyncedFile ∷ [])) ≡ true
+ends_so None = refl
+ends_so (Some steps) = last_is_sync steps
+
+-- no step was done
+pub kept_synced : (is_synced : Bool) (old new : Option (List Step)) → new ≡ old → IsTrue (is_so_synced is_synced old) → IsTrue (is_so_synced is_synced new)
+kept_synced is_synced old new same synced = subst (λ told. IsTrue (is_so_synced is_synced told)) (sym same) synced
+
+-- the sync was done, or failed
+pub synced_so : {T E : Type 0} (old new : Option (List Step)) (result : Result T E) → Does SyncedFile old new result → IsTrue (is_so_synced (is_ok result) new)
+synced_so old new (Ok x) done = ap ends_in_sync done ∙ ends_so old
+synced_so old new (Err e) done = refl
+
+pub synced_before : (is_synced : Bool) (told : Option (List Step)) → is_synced ≡ true → IsTrue (is_so_synced is_synced told) → IsTrue (ends_in_sync told)
+synced_before true told is synced = synced
+synced_before false told is synced = absurd (true≢false (sym is))
+
+-- a move of what was synced before, or just now
+pub moves_synced : {T E : Type 0} (file : PathV) (is_synced : Bool) (old new : Option (List Step)) (result : Result T E) → is_synced ≡ true → IsTrue (is_so_synced is_synced old)
+    → DoesAll (moved_in file) old new result → MovesIn file old new result
+moves_synced file is_synced old new result is synced moves = inl (synced_before is_synced old is synced, moves)
+
+pub moves_now : {T E : Type 0} (file : PathV) (old mid new : Option (List Step)) (result : Result T E) → mid ≡ with_steps old (SyncedFile ∷ [])
+    → DoesAll (moved_in file) mid new result → MovesIn file old new result
+moves_now file old mid new result synced moves = inr (more-done SyncedFile (moved_in file) old mid new result synced moves)
+
+pub moves_stopped : (T : Type 0) {E : Type 0} (file : PathV) (old new : Option (List Step)) (e : E) → (new ≡ old) ⊎ (new ≡ with_steps old (SyncedFile ∷ []))
+    → MovesIn {T = T} file old new (Err e)
+moves_stopped T file old new e done = inr (first-failed SyncedFile (moved_in file) old new done)
+
+-- ---- a small file
+
+-- what stopped in the first steps stopped in all
+pub stops-longer : (steps more : List Step) (old new : Option (List Step)) → StopsIn steps old new → StopsIn (steps ++ more) old new
+stops-longer steps more old new stopped = record {
+  done = stopped.done;
+  front = (stopped.front.0 ++ more, ap (λ s. s ++ more) stopped.front.1 ∙ append_assoc stopped.done stopped.front.0 more);
+  told = stopped.told;
+}
+
+-- the spare was made, and what comes behind was done
+pub small-put : {S T E : Type 0} (x : S) (name bytes : List ℕ) (old mid new : Option (List Step)) (result : Result T E)
+    → Empties {T = S} {E = E} old mid (Ok x) → DoesAll (filled_small name bytes) mid new result → PutsSmall name bytes old new result
+small-put x name bytes old mid new result (inl made) done = inl (more-done (Created spare_path) (filled_small name bytes) old mid new result made done)
+small-put x name bytes old mid new result (inr made) done =
+    let swept : Option (List Step) = with_steps old (Removed spare_path ∷ []) in
+    inr (more-done (Removed spare_path) (Created spare_path ∷ filled_small name bytes) old swept new result refl
+    (more-done (Created spare_path) (filled_small name bytes) swept mid new result (made ∙ sym (steps-more old (Removed spare_path ∷ []) (Created spare_path ∷ []))) done))
+
+-- or it could not be made
+pub small-unmade : (name bytes : List ℕ) (old new : Option (List Step)) → StopsIn (Created spare_path ∷ []) old new ⊎ StopsIn (Removed spare_path ∷ Created spare_path ∷ []) old new
+    → StopsIn (Created spare_path ∷ filled_small name bytes) old new ⊎ StopsIn (Removed spare_path ∷ Created spare_path ∷ filled_small name bytes) old new
+small-unmade name bytes old new (inl stopped) = inl (stops-longer (Created spare_path ∷ []) (filled_small name bytes) old new stopped)
+small-unmade name bytes old new (inr stopped) = inr (stops-longer (Removed spare_path ∷ Created spare_path ∷ []) (filled_small name bytes) old new stopped)
+
+-- it was looked at something before
+pub stopped-after : (steps : List Step) (old mid new : Option (List Step)) → mid ≡ old → StopsIn steps mid new → StopsIn steps old new
+stopped-after steps old mid new same stopped = subst (λ o. StopsIn steps o new) same stopped
+
+pub done-after : {T E : Type 0} (steps : List Step) (old mid new : Option (List Step)) (result : Result T E) → mid ≡ old → DoesAll steps mid new result → DoesAll steps old new result
+done-after steps old mid new result same done = subst (λ o. DoesAll steps o new result) same done
+
+-- it has the name and the bytes that are said
+pub small-named : {T E : Type 0} (said name told bytes : List ℕ) (old new : Option (List Step)) (result : Result T E) → said ≡ name → told ≡ bytes → PutsSmall said told old new result
+    → PutsSmall name bytes old new result
+small-named said name told bytes old new result same also put = subst (λ n. PutsSmall n bytes old new result) same (subst (λ b. PutsSmall said b old new result) also put)

@@ -1,6 +1,6 @@
 //! The changes of a folder, each durable as it ends.
 ghost use Rattle.std.specs.Prelude.{◌≡◌, ◌⊎◌, ◌∷◌, ◌++◌, [], IfOk, IsTrue};
-ghost use Rattle.local_folder.specs.Steps.{Does, DoesAll, Empties, MadeDirectory, Moved, Removed, SyncedFile, SyncedNames, made, moved_in, spare_path, taken, with_steps};
+ghost use Rattle.local_folder.specs.Steps.{Does, DoesAll, Empties, MadeDirectory, Moved, Removed, SyncedNames, made, moved_in, spare_path, taken, with_steps};
 ghost use Rattle.tree_model.specs.Path.{PathV};
 
 use crate::directory_calls::{DirectoryCalls, EntryKind};
@@ -44,11 +44,10 @@ pub(crate) fn new_spare<C: DirectoryCalls>(calls: &mut C, root: &C::Dir) -> io::
     calls.create(root, SPARE)
 }
 
-/// Moves the spare to a path, in place of a file that is there: its bytes are durable before, and its name after.
+/// Moves the spare to a path, in place of a file that is there: its name is durable after.
 pub(crate) fn move_spare<C: DirectoryCalls>(
     calls: &mut C,
     root: &C::Dir,
-    spare: &mut C::File,
     names: &[Name],
 ) -> io::Result<()>
     requires root { IsTrue (C.stands_at root.now []) }
@@ -66,7 +65,7 @@ pub(crate) fn move_spare<C: DirectoryCalls>(
             if let Err(failure) = takes_file(calls, &dir, name) {
                 return Err(failure);
             }
-            move_into(calls, root, spare, &dir, name)
+            move_into(calls, root, &dir, name)
         }
         None => Err(no_entry()),
     }
@@ -74,7 +73,11 @@ pub(crate) fn move_spare<C: DirectoryCalls>(
 
 /// Fails where a file can't take a name: something else has it, or a file that is listed under another one, as where the file
 /// system takes letters of both cases for the same. That is another file of the library, and is kept.
-fn takes_file<C: DirectoryCalls>(calls: &mut C, dir: &C::Dir, name: &Name) -> io::Result<()>
+pub(crate) fn takes_file<C: DirectoryCalls>(
+    calls: &mut C,
+    dir: &C::Dir,
+    name: &Name,
+) -> io::Result<()>
     ensures named { IfOk result (λ _. IsTrue (C.may_take calls.new dir.now name.now)) }
     ensures stays { C.steps calls.new ≡ C.steps calls.old }
 {
@@ -105,18 +108,14 @@ fn has_this_name<C: DirectoryCalls>(calls: &mut C, dir: &C::Dir, name: &Name) ->
 fn move_into<C: DirectoryCalls>(
     calls: &mut C,
     root: &C::Dir,
-    spare: &mut C::File,
     target: &C::Dir,
     name: &Name,
 ) -> io::Result<()>
     requires root { IsTrue (C.stands_at root.now []) }
     requires named { IsTrue (C.may_take calls.old target.now name.now) }
     ensures order { (path : PathV) → IsTrue (C.stands_at target.now path) →
-        DoesAll (SyncedFile ∷ Moved spare_path (path ++ name.now ∷ []) ∷ SyncedNames path ∷ []) (C.steps calls.old) (C.steps calls.new) result }
+        DoesAll (Moved spare_path (path ++ name.now ∷ []) ∷ SyncedNames path ∷ []) (C.steps calls.old) (C.steps calls.new) result }
 {
-    if let Err(failure) = calls.sync_file(spare) {
-        return Err(failure);
-    }
     if let Err(failure) = calls.rename(root, SPARE, target, name.as_str()) {
         return Err(failure);
     }

@@ -21,6 +21,21 @@ pub struct EntryNames {
     pub nameless: u64,
 }
 
+/// What the system tells of a file beside its bytes. A file that was written, or another that took its name, differs from what was
+/// told of it before in one of them.
+#[derive(Clone, Copy, Debug, PartialEq, Eq)]
+pub struct FileStamp {
+    /// The device, and the number of the file on it.
+    pub device: u64,
+    pub inode: u64,
+    /// In bytes.
+    pub size: u64,
+    /// When its bytes were written last: seconds since 1970, and nanoseconds.
+    pub written: (i64, i64),
+    /// When these or anything else of it was changed last.
+    pub changed: (i64, i64),
+}
+
 /// The calls of the system by which a folder works, each on one entry of a directory that is open.
 ///
 /// No call follows a link, but `open_folder` and `is_at` one in the path of the folder itself. A name has no `/`.
@@ -88,6 +103,14 @@ pub trait DirectoryCalls {
 
     /// Opens an entry that is a file itself, to read it.
     fn open_file(&mut self, dir: &Self::Dir, name: &str) -> io::Result<Self::File>
+        ensures stays { steps self.new ≡ steps self.old };
+
+    /// What the system tells of an open file.
+    fn stamp(&mut self, file: &Self::File) -> io::Result<FileStamp>
+        ensures stays { steps self.new ≡ steps self.old };
+
+    /// What it tells of an entry.
+    fn stamp_at(&mut self, dir: &Self::Dir, name: &str) -> io::Result<FileStamp>
         ensures stays { steps self.new ≡ steps self.old };
 
     /// Reads bytes of a file from a place on: none only at or past its end.

@@ -1,5 +1,5 @@
 //! The directories of the runtime's file system.
-use crate::directory_calls::{DirectoryCalls, EntryKind, EntryNames};
+use crate::directory_calls::{DirectoryCalls, EntryKind, EntryNames, FileStamp};
 use crate::permissions::{Permissions, hand_on, make_owners_file, usual_rights};
 use std::alloc::{AllocError, Global};
 use std::fs::{DirBuilder, DirEntry, File, Files, Metadata, TryLockError};
@@ -124,6 +124,15 @@ impl<R: Files<File = File> + AllocGlobal + Clone + Drop> DirectoryCalls for Syst
         itself(&self.rt, opened, path.as_str())
     }
 
+    fn stamp(&mut self, file: &File) -> io::Result<FileStamp> {
+        Ok(stamp_of(&file.metadata()?))
+    }
+
+    fn stamp_at(&mut self, dir: &File, name: &str) -> io::Result<FileStamp> {
+        let path = entry_path(self.rt.alloc(), dir, name)?;
+        Ok(stamp_of(&fs::symlink_metadata(&self.rt, path.as_str())?))
+    }
+
     fn read(&mut self, file: &mut File, place: u64, into: &mut [u8]) -> io::Result<usize> {
         file.read_at(into, place)
     }
@@ -223,6 +232,17 @@ fn itself<R: Files>(rt: &R, opened: File, path: &str) -> io::Result<File> {
 /// Whether two tell of the same file of the same device.
 fn is_same(one: &Metadata, other: &Metadata) -> bool {
     one.ino() == other.ino() && one.dev() == other.dev()
+}
+
+/// What the system tells of a file beside its bytes.
+fn stamp_of(metadata: &Metadata) -> FileStamp {
+    FileStamp {
+        device: metadata.dev(),
+        inode: metadata.ino(),
+        size: metadata.size(),
+        written: (metadata.mtime(), metadata.mtime_nsec()),
+        changed: (metadata.ctime(), metadata.ctime_nsec()),
+    }
 }
 
 /// What the system tells, in our words.

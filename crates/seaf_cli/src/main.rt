@@ -4,6 +4,8 @@
 #![tactic(auto)]
 
 mod cause;
+mod claims;
+mod markers;
 mod notes;
 mod own_folder;
 mod progress;
@@ -24,6 +26,7 @@ use std::fs::{File, Files};
 use std::io::Stderr;
 use std::net::{Net, TcpStream};
 use std::process::ExitCode;
+use std::rt::Env;
 use std::time::Clock;
 use system_edges::{StandardSink, SystemClock, words_of};
 
@@ -45,7 +48,7 @@ fn main(rt: HostRuntime) -> ExitCode {
 
 /// Runs the command over the folders and the network of this runtime.
 fn run_over<
-    R: Files<File = File> + Net<Stream = TcpStream> + Clock + AllocGlobal + Clone + Drop,
+    R: Files<File = File> + Net<Stream = TcpStream> + Env + Clock + AllocGlobal + Clone + Drop,
     C: library_state::Clock,
     O: Sink,
 >(rt: &R, words: &[Text], err: Stderr, clock: &C, out: &mut O) -> u8 {

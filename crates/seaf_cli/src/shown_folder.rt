@@ -163,6 +163,8 @@ impl<F: Folder + Cause, R: Clock> Folder for ShownFolder<'_, F, R> {
 
     ghost faults = { λ shown. F.faults shown.folder };
 
+    ghost trace = { λ shown. F.trace shown.folder };
+
     fn list(&mut self, alloc: Global, dir: &Path) -> Result<Listing, FolderFault> {
         let listed = self.folder.list(alloc, dir);
         note_failure_at(
@@ -187,6 +189,32 @@ impl<F: Folder + Cause, R: Clock> Folder for ShownFolder<'_, F, R> {
             self.folder.cause(),
         );
         found
+    }
+
+    fn open_file(&mut self, file: &Path) -> Result<bool, FolderFault> {
+        let opened = self.folder.open_file(file);
+        note_failure_at(
+            self.notes,
+            &self.whose,
+            "reading",
+            file,
+            &opened,
+            self.folder.cause(),
+        );
+        opened
+    }
+
+    fn is_as_opened(&mut self, file: &Path) -> Result<bool, FolderFault> {
+        let same = self.folder.is_as_opened(file);
+        note_failure_at(
+            self.notes,
+            &self.whose,
+            "looking at",
+            file,
+            &same,
+            self.folder.cause(),
+        );
+        same
     }
 
     fn read(&mut self, file: &Path, place: u64, into: &mut [u8]) -> Result<usize, FolderFault> {
@@ -229,6 +257,19 @@ impl<F: Folder + Cause, R: Clock> Folder for ShownFolder<'_, F, R> {
             self.folder.cause(),
         );
         added
+    }
+
+    fn spare_sync(&mut self) -> Result<(), FolderFault> {
+        let synced = self.folder.spare_sync();
+        note_failure(
+            self.notes,
+            &self.whose,
+            "writing",
+            SPARE,
+            &synced,
+            self.folder.cause(),
+        );
+        synced
     }
 
     fn spare_move(&mut self, file: &Path) -> Result<(), FolderFault> {

@@ -1,14 +1,16 @@
 //! The folders of the file system and the network, as the client's desk.
 ghost use Rattle.std.specs.Prelude.{◌≡◌, IfOk};
 
+use crate::claims::whose_of;
+use crate::markers::{Ground, Marked};
 use crate::notes::Notes;
 use crate::own_folder::OwnFolder;
 use crate::shown_dial::ShownDial;
 use crate::shown_folder::ShownFolder;
-use client_desk::Desk;
+use client_desk::{Claim, Desk};
 use folder_side::FolderFault;
 use http_server::Log;
-use ids::Text;
+use ids::{LibId, Text};
 use local_folder::{LocalFolder, Permissions, SystemDirectories, answer};
 use std::alloc::AllocError;
 use std::fs::{DirBuilder, File, Files};
@@ -16,6 +18,7 @@ use std::io;
 use std::io::ErrorKind;
 use std::net::{Net, TcpStream};
 use std::os::unix::fs::DirBuilderExt;
+use std::rt::Env;
 use std::time::Clock;
 use tcp_links::{TcpDial, TcpLink};
 
@@ -25,6 +28,9 @@ use tcp_links::{TcpDial, TcpLink};
 /// What is made in the client's own folder is its owner's alone. That folder is made where the client is to begin in it and it
 /// isn't there; no other is: one that isn't there is a fault, since an empty one would be synced as one whose files were
 /// removed.
+///
+/// A job's folder is handed out where its marker, and what is noted of it, lets it be that job's; and one of which a sync ended well
+/// gets its marker as it comes back.
 #[derive(Drop)]
 pub struct SystemDesk<'a, R> {
     rt: &'a R,
@@ -32,6 +38,10 @@ pub struct SystemDesk<'a, R> {
     notes: &'a Notes<&'a R>,
     folder_faults: u64,
     dial_faults: u64,
+    // What is known of the marker of the job's folder that is out.
+    marked: Option<Marked>,
+    // Why the marker of the folder that came back last could not be put.
+    unmarked: Option<io::Error>,
     // The dials that came back, for proofs alone.
     dials: Log<ShownDial<'a, TcpDial<&'a R>, TcpLink, &'a R>, u64>,
 }
@@ -46,13 +56,17 @@ impl<'a, R> SystemDesk<'a, R> {
             notes,
             folder_faults: 0,
             dial_faults: 0,
+            marked: None,
+            unmarked: None,
             dials: Log::new(),
         }
     }
 }
 
-impl<'a, R: Files<File = File> + Net<Stream = TcpStream> + Clock + AllocGlobal + Clone + Drop> Desk
-    for SystemDesk<'a, R> {
+impl<
+    'a,
+    R: Files<File = File> + Net<Stream = TcpStream> + Env + Clock + AllocGlobal + Clone + Drop,
+> Desk for SystemDesk<'a, R> {
     ghost use Rattle.std.specs.Prelude.{None, map, true};
 
     type F = ShownFolder<'a, LocalFolder<SystemDirectories<R>>, &'a R>;
@@ -72,18 +86,20 @@ impl<'a, R: Files<File = File> + Net<Stream = TcpStream> + Clock + AllocGlobal +
     fn folder(
         &mut self,
         dir: &str,
+        claim: Claim,
     ) -> Result<ShownFolder<'a, LocalFolder<SystemDirectories<R>>, &'a R>, FolderFault> {
-        let whose = match Text::copy(self.rt.alloc(), dir) {
+        let whose = match whose_of(self.rt.alloc(), dir, claim) {
             Ok(whose) => whose,
             Err(AllocError) => return Err(FolderFault::NoMemory),
         };
-        let opened = open(self.rt, &self.own, dir);
-        note_failure(self.notes, dir, &opened);
-        let folder = match answer(&mut self.folder_faults, opened) {
-            Ok(folder) => folder,
+        let opened = open_marked(&self.ground(), &self.own, dir, claim);
+        let opened = match answer(&mut self.folder_faults, opened) {
+            Ok(opened) => opened,
             Err(fault) => return Err(fault),
         };
-        let is_shown = self.own.path.slice() != dir;
+        let (folder, marked) = opened;
+        self.marked = marked;
+        let is_shown = claim != Claim::Own;
         Ok(ShownFolder::new(folder, self.notes, whose, is_shown))
     }
 
@@ -91,10 +107,25 @@ impl<'a, R: Files<File = File> + Net<Stream = TcpStream> + Clock + AllocGlobal +
         &mut self,
         dir: &str,
         folder: ShownFolder<'a, LocalFolder<SystemDirectories<R>>, &'a R>,
+        is_synced: bool,
     ) {
         let _ = dir;
-        let folder = folder.into_folder();
+        let mut folder = folder.into_folder();
+        let marked = self.marked.take();
+        let put = self.ground().put_marker(is_synced, &marked, &mut folder);
+        self.unmarked = put.err();
         self.folder_faults = self.folder_faults.saturating_add(folder.end());
+    }
+
+    fn check_marker(&mut self) -> Result<(), FolderFault> {
+        match self.unmarked.take() {
+            Some(failure) => answer(&mut self.folder_faults, Err(failure)),
+            None => Ok(()),
+        }
+    }
+
+    fn take_marker(&mut self, dir: &str, lib: &LibId) {
+        self.ground().take_marker(dir, *lib);
     }
 
     fn dial(&mut self) -> ShownDial<'a, TcpDial<&'a R>, TcpLink, &'a R> {
@@ -108,12 +139,37 @@ impl<'a, R: Files<File = File> + Net<Stream = TcpStream> + Clock + AllocGlobal +
     }
 }
 
-/// Tells why a folder wasn't opened, if it wasn't by a fault.
-fn note_failure<T, R: Clock>(notes: &Notes<R>, dir: &str, opened: &io::Result<T>) {
-    if let Err(failure) = opened {
-        if failure.kind() != ErrorKind::OutOfMemory {
-            notes.fault(dir, "opening", "", failure);
+impl<R> SystemDesk<'_, R> {
+    /// What markers go by.
+    fn ground(&self) -> Ground<'_, R> {
+        Ground {
+            rt: self.rt,
+            own: self.own.path.slice(),
+            notes: self.notes,
         }
+    }
+}
+
+/// The folder at a path, where its marker lets it be what it is asked for as, and what is known of that, where it is a job's. A failure has
+/// its line.
+fn open_marked<R: Files<File = File> + Env + Clock + AllocGlobal + Clone + Drop>(
+    ground: &Ground<'_, R>,
+    own: &OwnFolder,
+    dir: &str,
+    claim: Claim,
+) -> io::Result<(LocalFolder<SystemDirectories<R>>, Option<Marked>)>
+    ensures faults { IfOk result (λ opened. opened.0.faults ≡ 0) }
+{
+    let mut folder = match open(ground.rt, own, dir) {
+        Ok(folder) => folder,
+        Err(failure) => {
+            let _ = ground.unopened(dir, claim, &failure);
+            return Err(failure);
+        }
+    };
+    match ground.marked(dir, claim, &mut folder) {
+        Ok(marked) => Ok((folder, marked)),
+        Err(failure) => Err(failure),
     }
 }
 

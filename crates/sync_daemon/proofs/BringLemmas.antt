@@ -18,7 +18,7 @@ use Rattle.sync_rules.specs.declared.synced.Synced.{Synced}
 use Rattle.tree_checkout.specs.CheckingOut.{ChecksOut, StopsOut}
 use Rattle.tree_checkout.specs.declared.planning.Plan.{Plan}
 use Rattle.tree_checkout.specs.declared.steps.Write.{Write}
-use Rattle.tree_fetch.specs.Fetching.{FetchesCommit}
+use Rattle.tree_fetch.specs.Fetching.{FetchesCommit, GotCommit}
 use Rattle.tree_fetch.specs.declared.asker.Asker.{Asker}
 use Rattle.tree_fetch.specs.declared.tree.FetchedTree.{FetchedTree}
 use Rattle.sync_daemon.specs.Bringing.{BringsSo, ChangesNot, ChangesSo, FinishesAs, IsDone, IsOwnHead, IsReady, KnowsAs, KnowsSo, ReachesAs, StopsChange, index_of, is_pushed, source_of, tells_conflict, with_owns}
@@ -77,7 +77,7 @@ pub both_when : {P Q : Type 0} (b : Bool) → IsTrue b ↔ P → b ≡ true → 
 both_when b test holds told right = ((λ is. (test.0 holds, right.0 is)), (λ both. right.1 both.1))
 
 module _ (asker : Asker) (cuts : Cuts) (settled : Settled) (old mid new : List Sent) (told now : Option Contents) (index : Index) (commit : Commit)
-    (fetched : FetchesCommit asker old mid settled.head (Ok commit)) (pushed : Bool) (pushed_is : pushed ≡ is_pushed settled.pushed) where
+    (fetched : FetchesCommit asker old mid settled.head (Ok commit)) (listed : GotCommit asker old mid settled.head commit) (pushed : Bool) (pushed_is : pushed ≡ is_pushed settled.pushed) where
   pub reaches_by : (done : Done) (conflict : Bool) → conflict ≡ tells_conflict settled.pushed settled.head commit.conflict
       → BringsSo asker cuts settled.scan index pushed settled.differs commit.root mid new told now (Ok done)
       → ReachesAs asker cuts settled old new told now index (index_of index settled done) (Ok (told_of settled conflict done))
@@ -86,6 +86,7 @@ module _ (asker : Asker) (cuts : Cuts) (settled : Settled) (old mid new : List S
     commit,
     done,
     fetched,
+    listed,
     subst (λ (b : Bool). BringsSo asker cuts settled.scan index b settled.differs commit.root mid new told now (Ok done)) pushed_is brings,
     refl,
     ap (λ (b : Bool). told_of settled b done) conflict_is,
@@ -93,7 +94,7 @@ module _ (asker : Asker) (cuts : Cuts) (settled : Settled) (old mid new : List S
 
   pub halts_by : (f : SyncFault) → BringsSo asker cuts settled.scan index pushed settled.differs commit.root mid new told now (Err f)
       → ReachesAs asker cuts settled old new told now index index (Err f)
-  halts_by f brings = (refl, inr (mid, commit, fetched, subst (λ (b : Bool). BringsSo asker cuts settled.scan index b settled.differs commit.root mid new told now (Err f)) pushed_is brings))
+  halts_by f brings = (refl, inr (mid, commit, fetched, listed, subst (λ (b : Bool). BringsSo asker cuts settled.scan index b settled.differs commit.root mid new told now (Err f)) pushed_is brings))
 
 -- ---- all of the second half
 

@@ -127,15 +127,15 @@ module _ (asker : Asker) (user : List ℕ) (shows : ℕ → Type 0) (cuts : Cuts
   reach_halts first old new now later f is begun apart (kept, inl (halts, same)) =
       subst (λ (x : Index). FinishesSo this now x start new (Err f)) (sym kept)
       (all_stopped new now f same (commit_halts asker user shows cuts told index start first settled (reading_begins this first settled is) old new f begun halts))
-  reach_halts first old new now later f is begun apart (kept, inr (mid, commit, fetched, brings)) =
-      let got = commit_got asker user shows cuts told index start first settled (reading_begins this first settled is) old mid commit begun fetched in
+  reach_halts first old new now later f is begun apart (kept, inr (mid, commit, fetched, listed, brings)) =
+      let got = commit_got asker user shows cuts told index start first settled (reading_begins this first settled is) old mid commit begun fetched listed in
       subst (λ (x : Index). FinishesSo this now x start new (Err f)) (sym kept) (bring_stopped got.0 commit got.2 apart mid new now f got.1 brings)
 
   -- the head's commit was got, or an order for it failed
   reach_all : (first old new : List Sent) (now : Option Contents) (later : Index) (result : Result Synced SyncFault) → IsSettled this first settled → old ≡ start ++ first
       → (IsDone settled index → ⊥) → (IsOwnHead settled index → ⊥) → ReachesAs asker cuts settled old new told now index later result → FinishesSo this now later start new result
-  reach_all first old new now later (Ok s) is begun apart other (mid, commit, done, fetched, brings, later_is, tells) =
-      let got = commit_got asker user shows cuts told index start first settled (reading_begins this first settled is) old mid commit begun fetched in
+  reach_all first old new now later (Ok s) is begun apart other (mid, commit, done, fetched, listed, brings, later_is, tells) =
+      let got = commit_got asker user shows cuts told index start first settled (reading_begins this first settled is) old mid commit begun fetched listed in
       subst (λ (x : Index). FinishesSo this now x start new (Ok s)) (sym later_is)
       (subst (λ (x : Synced). FinishesSo this now (index_of index settled done) start new (Ok x)) (sym tells)
       (bring_done got.0 commit got.2 apart other mid new now done got.1 brings))
@@ -253,6 +253,8 @@ synced_as secret user shows told now i other later j start new result counts lef
       ends = is.ends;
       leaves = leaves_all more result left is.leaves;
       skipped = is.skipped;
+      keeps = is.keeps;
+      sends = is.sends;
       over = λ c told_so. over_all cuts c more result left (is.over c told_so);
     }
 

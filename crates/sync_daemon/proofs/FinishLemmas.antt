@@ -30,6 +30,7 @@ use Rattle.sync_daemon.specs.declared.round.Settled.{Settled}
 use Rattle.sync_daemon.proofs.GoingLemmas.{fails_here}
 use Rattle.sync_daemon.proofs.ReadingLemmas.{headed}
 use Rattle.sync_daemon.proofs.SkippedLemmas.{same_skipped}
+use Rattle.sync_daemon.proofs.UnpushedLemmas.{same_unpushed}
 
 -- ---- refused before the folder is touched
 
@@ -46,6 +47,8 @@ refused_finishes s more f is = record {
   ends = is.ends;
   leaves = refl;
   skipped = same_skipped s.told;
+  keeps = same_unpushed (record { lib = s.lib; secret = s.secret }) s.user s.shows s.cuts s.told s.index more;
+  sends = λ c told. (is.over c told).sends;
   over = λ c told.
       let over : RefusesOver s c more f = is.over c told in (
         c,
@@ -71,7 +74,7 @@ stale_ends s more count going (before, sent, last, is, refused) = record {
   );
   over = λ c told.
       let over : GoingOver s c more = going.over c told in
-      record { uploads = over.uploads; order = over.order; comes = over.found; cause = inl (tt, going.unbegun) };
+      record { uploads = over.uploads; order = over.order; comes = over.found; sends = over.sends; cause = inl (tt, going.unbegun) };
 }
 
 -- ---- the library did not go on, and one who may only read has changed the folder
@@ -148,6 +151,8 @@ module _ (s : Sync) (more : List Sent) (settled : Settled) (is_settled : IsSettl
     );
     leaves = (based, refl, inl (record { pushed = unpushed; head = based; none = asks_none; conflict = refl; same = λ path. refl }));
     skipped = same_skipped s.told;
+    keeps = same_unpushed (record { lib = s.lib; secret = s.secret }) s.user s.shows s.cuts s.told s.index more;
+    sends = λ c told. (is_settled.going.over c told).sends;
     over = λ c told.
         let over : GoingOver s c more = is_settled.going.over c told in (
           c,

@@ -25,8 +25,10 @@ use Rattle.sync_rules.specs.declared.fault.SyncFault.{SyncFault}
 use Rattle.sync_rules.proofs.WentLemmas.{went_then}
 use Rattle.sync_daemon.specs.RoundOrder.{AsksSo, HeadsOnce, IsSoInRound, is_head, stage_from}
 use Rattle.sync_daemon.specs.Going.{CausedUntouched, Going, GoingOver, Refuses, Sync}
+use Rattle.sync_daemon.specs.SentKeys.{SendsOffered}
 use Rattle.sync_daemon.proofs.GoingLemmas.{gets_last, had_then, lacks_quiet, last_then, last_with, late_then, offers_quiet, puts_quiet, stands_quiet}
 use Rattle.sync_daemon.proofs.JoinLemmas.{empty_then, head_then, last_what, offers_then, orders_then, pushes_then, some_then, stage_then}
+use Rattle.sync_daemon.proofs.SentKeyLemmas.{sends_none, sends_then}
 
 abbrev pub IsGetting : Sent → Type 0
 IsGetting sent = is_get sent.0.what ≡ true
@@ -215,6 +217,9 @@ module _ (s : Sync) (first more : List Sent) (stage : Stage) (late : ℕ) (going
     offers = offers_then s.cuts c s.index s.user s.shows [] first more was.offers (offers_gets c first more gets);
   }
 
+  pub sends_gets : (c : Contents) → SendsOffered (record { lib = s.lib; secret = s.secret }) s.user s.shows s.cuts c s.index [] first → SendsOffered (record { lib = s.lib; secret = s.secret }) s.user s.shows s.cuts c s.index [] (first ++ more)
+  sends_gets c was = sends_then (record { lib = s.lib; secret = s.secret }) s.user s.shows s.cuts c s.index [] first more was (sends_none (record { lib = s.lib; secret = s.secret }) s.user s.shows s.cuts c s.index first more (not_uploads more gets))
+
   pub order_gets : (c : Contents) → GoingOver s c first → GetsOver s first c → GoesInOrder s.cuts c s.index (first ++ more)
   order_gets c was over = record {
     scanned = inr over.within;
@@ -243,6 +248,7 @@ module _ (s : Sync) (first more : List Sent) (stage : Stage) (late : ℕ) (going
         let was : GoingOver s c first = going.over c told in
         let here : GetsOver s first c = over c told in record {
           uploads = uploads_gets c was.uploads;
+          sends = sends_gets c was.sends;
           order = order_gets c was here;
           found = found_over_gets c was here;
           had = was.had ++ had;
@@ -270,6 +276,7 @@ module _ (s : Sync) (first more : List Sent) (stage : Stage) (late : ℕ) (going
         let here : GetsOver s first c = over c told in
         let why : ComesInOrder c s.index (first ++ more) f × CausedUntouched s c (first ++ more) f = comes c told in record {
           uploads = uploads_gets c was.uploads;
+          sends = sends_gets c was.sends;
           order = order_gets c was here;
           comes = why.0;
           cause = why.1;

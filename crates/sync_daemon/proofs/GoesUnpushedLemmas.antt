@@ -1,6 +1,6 @@
 -- What is so of a folder in which nothing was pushed: it agrees with its index, or a checkout that was interrupted left it so, or one who
 -- may only read changed it, and the sync is refused. The key lemmas are may_same, may_where, interrupted_so,
--- goes_unpushed, goes_here and changed_refuses.
+-- goes_unpushed, loses_none, goes_here and changed_refuses.
 use Rattle.std.proofs.Common.{◌≡◌, ◌≢◌, ◌⊎◌, ◌↔◌, IsTrue, ℕ, Bool, true, false, All, List, [], ◌++◌, Option, None, Some, is_some, refl, sym, ap, subst, ◌∙◌, append-nil, inl, inr, true≢false}
 use Rattle.std.specs.FinMap as fin
 use Rattle.std.proofs.lemmas.List.Elements.{All-nil}
@@ -25,11 +25,13 @@ use Rattle.sync_daemon.specs.Bringing.{IsDone, MayChange}
 use Rattle.sync_daemon.specs.Going.{Refuses, Sync}
 use Rattle.sync_daemon.specs.InterruptedCheckout.{EntryPaths, IsSeenLeft}
 use Rattle.sync_daemon.specs.Rounds.{Differs, sync_of}
+use Rattle.sync_daemon.specs.Unpushed.{IsKnownOrTaken, ReadsOn}
 use Rattle.sync_daemon.specs.declared.round.Settled.{Settled}
 use Rattle.sync_daemon.proofs.GetLemmas.{IsGetting, denies_then}
 use Rattle.sync_daemon.proofs.GoingLemmas.{fails_here}
 use Rattle.sync_daemon.proofs.GotTreeLemmas.{HasTree}
 use Rattle.sync_daemon.proofs.ReadingLemmas.{headed, names, pushed_in}
+use Rattle.sync_daemon.proofs.UnpushedLemmas.{kept_later}
 
 -- whether a folder may be changed
 pub may_same : (differs : Bool) (seens : SeenPaths) (knowns : KnownPaths) (entries : EntryPaths) → differs ≡ false → IsTrue true ↔ MayChange differs seens knowns entries
@@ -91,6 +93,40 @@ module _ (asker : Asker) (user : List ℕ) (shows : ℕ → Type 0) (cuts : Cuts
           denies_then before more (got.reading.differs differs).denies,
           subst (λ (id : List ℕ). IsInterrupted cuts c index (before ++ more) id) (ap head_in same) (interrupted_so more c is differs),
         )
+
+    -- what it held is known or was taken in, or a checkout left it so
+    pub loses_none : (more : List Sent) → All IsGetting more → (c : Contents) → told ≡ Some c
+        → IsKnownOrTaken (record { lib = asker.lib; secret = asker.secret }) user shows cuts c index (before ++ more)
+        ⊎ ReadsOn (record { lib = asker.lib; secret = asker.secret }) cuts c index (before ++ more)
+    loses_none more gets c is = by settled.differs refl
+      where
+        by : (b : Bool) → settled.differs ≡ b
+            → IsKnownOrTaken (record { lib = asker.lib; secret = asker.secret }) user shows cuts c index (before ++ more)
+            ⊎ ReadsOn (record { lib = asker.lib; secret = asker.secret }) cuts c index (before ++ more)
+        by false same = inl (kept_later (record { lib = asker.lib; secret = asker.secret }) user shows cuts c index before more (got.reading.kept c is same))
+        by true differs =
+            let reader : Differs this before settled = got.reading.differs differs in
+            let based = base_of index.base reader.based in
+            inr (record {
+              rounds = got.rounds;
+              mid = got.mid;
+              got = before;
+              later = more;
+              sent = refl;
+              head = settled.head;
+              named = got.named ∙ ap (headed settled.head) reader.unpushed;
+              last = names this before settled got.reading more gets ∙ ap (headed settled.head) reader.unpushed;
+              denies = denies_then before more reader.denies;
+              commit = commit;
+              fetched = got.got;
+              tree = tree;
+              whole = got.fetched;
+              base = based.0;
+              based = based.1;
+              apart = λ one. apart (reader.unpushed, based.1 ∙ ap (λ (id : List ℕ). Some id) one);
+              left = λ path.
+                  (λ i. is_left (sym ((got.reading.seen c is).scanned.paths path) i) (fin.get index.entries path) (fin.get tree.entries path)) ∙ may differs path;
+            })
 
     pub goes_here : (c : Contents) → told ≡ Some c → GoesUnpushed cuts c index before
     goes_here c is = subst (λ (sends : List Sent). GoesUnpushed cuts c index sends) (append-nil before) (goes_unpushed [] (All-nil IsGetting) c is)

@@ -25,6 +25,7 @@ use Rattle.sync_rules.proofs.WentLemmas.{goes_well, went_then}
 use Rattle.sync_daemon.specs.RoundOrder.{AsksSo, IsSoInRound, is_head}
 use Rattle.sync_daemon.specs.Going.{CausedUntouched, Going, GoingOver, Refuses, Spares, Sync}
 use Rattle.sync_daemon.proofs.JoinLemmas.{empty_then, last_what, offers_then, orders_then, pushes_then, some_then, stage_then}
+use Rattle.sync_daemon.proofs.SentKeyLemmas.{sends_one}
 
 -- ---- the end of a list
 
@@ -119,6 +120,7 @@ going_begins s = record {
     uploads = record { changed = λ same. All-nil (λ (sent : Sent). is_upload sent.0.what ≡ false); joins = λ none has. tt; offers = tt };
     order = record { scanned = inl (All-nil (λ (sent : Sent). is_check sent.0.what ≡ true)); found = λ none has. tt; pushed = tt };
     found = λ none has some. none_found some;
+    sends = tt;
     had = [];
     is_had = tt;
   };
@@ -210,6 +212,7 @@ module _ (s : Sync) (first : List Sent) (stage : Stage) (late : ℕ) (sent : Sen
         let was : GoingOver s c first = going.over c told in
         let here : GoesOver c = over c told in record {
           uploads = uploads_one c was.uploads;
+          sends = sends_one (record { lib = s.lib; secret = s.secret }) s.user s.shows s.cuts c s.index first sent was.sends quiet.none;
           order = order_one c was here.scanned;
           found = here.found;
           had = was.had ++ here.had;
@@ -233,6 +236,7 @@ module _ (s : Sync) (first : List Sent) (stage : Stage) (late : ℕ) (sent : Sen
         let was : GoingOver s c first = going.over c told in
         let here : IsScanned c sent × ComesInOrder c s.index (first ++ sent ∷ []) f = over c told in record {
           uploads = uploads_one c was.uploads;
+          sends = sends_one (record { lib = s.lib; secret = s.secret }) s.user s.shows s.cuts c s.index first sent was.sends quiet.none;
           order = order_one c was here.0;
           comes = here.1;
           cause = inl (no_tree, unbegun unbegun_one);
@@ -255,6 +259,7 @@ module _ (s : Sync) (first : List Sent) (stage : Stage) (late : ℕ) (sent : Sen
         let was : GoingOver s c first = going.over c told in
         let here : IsScanned c sent × ComesInOrder c s.index (first ++ sent ∷ []) f = over c told in record {
           uploads = uploads_one c was.uploads;
+          sends = sends_one (record { lib = s.lib; secret = s.secret }) s.user s.shows s.cuts c s.index first sent was.sends quiet.none;
           order = order_one c was here.0;
           comes = here.1;
           cause = inl (no_tree, unbegun unbegun_one);
@@ -278,6 +283,7 @@ module _ (s : Sync) (more : List Sent) (stage : Stage) (late : ℕ) (going : Goi
         let was : GoingOver s c more = going.over c told in
         let here : ComesInOrder c s.index more f × CausedUntouched s c more f = over c told in record {
           uploads = was.uploads;
+          sends = was.sends;
           order = was.order;
           comes = here.0;
           cause = here.1;

@@ -1,11 +1,15 @@
 -- The head's commit and tree were got. The key lemmas are commit_got, tree_got, tree_halts and blocks_of_head.
-use Rattle.std.proofs.Common.{◌≡◌, ℕ, Bool, false, if◌then◌else◌, All, List, [], ◌∷◌, ◌++◌, Option, None, Ok, Err, sym, ap, subst, ◌∙◌, append_assoc}
+use Rattle.std.proofs.Common.{◌≡◌, ℕ, Bool, false, if◌then◌else◌, All, List, [], ◌∷◌, ◌++◌, Option, None, Ok, Err, sym, ap, subst, ◌∙◌, append_assoc, refl, Some}
 use Rattle.std.specs.List.{Contains}
+use Rattle.std.proofs.lemmas.List.{append_cancel_left}
 use Rattle.std.proofs.lemmas.List.Elements.{All-append, All-contains, All-contains_itself, All-nil, All-weaker}
 use Rattle.ids.specs.Key.{Objects}
 use Rattle.block_chunker.specs.declared.cuts.Cuts.{Cuts}
 use Rattle.commit_objects.specs.declared.commit.Commit.{Commit}
 use Rattle.folder_side.specs.Folder.{Contents}
+use Rattle.http_front.specs.declared.order.What.TheVariants as what
+use Rattle.http_front.specs.declared.outcome.Outcome.TheVariants.{Plain}
+use Rattle.library_state.specs.declared.reply.Reply.TheVariants as reply
 use Rattle.local_index.specs.declared.index.Index.{Index}
 use Rattle.object_graph.specs.Objects.{AreEntriesOf, block_key, commit_at, commit_key, fs_key, is_nil}
 use Rattle.object_graph.specs.Reached.{ReachedFrom, own_keys}
@@ -13,7 +17,7 @@ use Rattle.object_graph.specs.Traversal.{is_in, start as walk_start, walk_root}
 use Rattle.object_graph.specs.Unchanged.{Keeps}
 use Rattle.object_graph.proofs.ReachingLemmas.{in_first}
 use Rattle.remote_calls.specs.Sends.{Sent}
-use Rattle.sync_rules.specs.Named.{HasGot}
+use Rattle.sync_rules.specs.Named.{HasGot, last_head}
 use Rattle.sync_rules.specs.declared.fault.SyncFault.{SyncFault}
 use Rattle.sync_rules.specs.declared.fault.SyncFault.TheVariants as fault
 use Rattle.sync_rules.proofs.GotLemmas.{got_first, got_later}
@@ -26,7 +30,8 @@ use Rattle.tree_checkout.specs.declared.planning.DueNode.TheVariants as due
 use Rattle.tree_checkout.specs.declared.steps.Write.{Write}
 use Rattle.tree_checkout.specs.declared.steps.WriteNode.{WriteNode}
 use Rattle.tree_checkout.specs.declared.steps.WriteNode.TheVariants as write
-use Rattle.tree_fetch.specs.Fetching.{FetchesCommit, FetchesTree, FindsWrongTree, IsFetchedCommit, IsFetchedTree, Stopped}
+use Rattle.tree_fetch.specs.Asking.{order_of}
+use Rattle.tree_fetch.specs.Fetching.{FetchesCommit, FetchesTree, FindsWrongTree, IsFetchedCommit, IsFetchedTree, Stopped, GotCommit}
 use Rattle.tree_fetch.specs.declared.asker.Asker.{Asker}
 use Rattle.tree_fetch.specs.declared.tree.FetchedTree.{FetchedTree}
 use Rattle.sync_daemon.specs.Bringing.{AreMade, IsMade}
@@ -44,6 +49,9 @@ use Rattle.sync_daemon.proofs.WrittenLemmas.{AreIn, IsNodeIn, made_node}
 pub record HasCommit (s : Sync) (more : List Sent) (settled : Settled) (commit : Commit) : Type 0 where
   pub reading : IsReading s more settled
   pub stored : (objects : Objects) → HasGot objects more → commit_at objects settled.head ≡ Ok commit
+  pub rounds : List Sent
+  pub named : last_head rounds None ≡ Some (settled.head, settled.pushed)
+  pub got : GotCommit (record { lib = s.lib; secret = s.secret }) rounds more settled.head commit
 
 -- and its tree
 pub record HasTree (s : Sync) (more : List Sent) (settled : Settled) (commit : Commit) (tree : FetchedTree) : Type 0 where
@@ -52,15 +60,20 @@ pub record HasTree (s : Sync) (more : List Sent) (settled : Settled) (commit : C
   pub whole : (objects : Objects) → HasGot objects more → (walk_root false objects commit.root walk_start).fault ≡ None
   pub entries : (objects : Objects) → HasGot objects more → AreEntriesOf objects commit.root tree.entries
   pub kept : (objects : Objects) → HasGot objects more → Keeps tree.objects objects
+  pub rounds : List Sent
+  pub mid : List Sent
+  pub named : last_head rounds None ≡ Some (settled.head, settled.pushed)
+  pub got : GotCommit (record { lib = s.lib; secret = s.secret }) rounds mid settled.head commit
+  pub fetched : IsFetchedTree (record { lib = s.lib; secret = s.secret }) mid more commit.root tree
 
 module _ (asker : Asker) (user : List ℕ) (shows : ℕ → Type 0) (cuts : Cuts) (told : Option Contents) (index : Index) (start first : List Sent) (settled : Settled) where
   abbrev this : Sync
   this = sync_of asker user shows cuts told index
 
   module _ (is : IsReading this first settled) where
-    pub commit_got : (old mid : List Sent) (commit : Commit) → old ≡ start ++ first → IsFetchedCommit asker old mid settled.head commit
+    pub commit_got : (old mid : List Sent) (commit : Commit) → old ≡ start ++ first → IsFetchedCommit asker old mid settled.head commit → GotCommit asker old mid settled.head commit
         → (more : List Sent) × (mid ≡ start ++ more) × HasCommit this more settled commit
-    commit_got old mid commit begun got =
+    commit_got old mid commit begun got listed =
         let more : List Sent = got.more in
         let gets = gets_of asker more got.asked in (
           first ++ more,
@@ -70,6 +83,15 @@ module _ (asker : Asker) (user : List ℕ) (shows : ℕ → Type 0) (cuts : Cuts
                 (needed_commit first settled.head settled.pushed (names this first settled is) more gets got.reached) got.went (timely_of asker more got.asked) (small_of asker more got.asked)
                 got.had got.sends.had_them;
             stored = λ objects has. got.stored objects (got_later objects first more has);
+            rounds = first;
+            named = is.named;
+            got = record {
+              bytes = listed.bytes;
+              tag = listed.tag;
+              is = ap (λ (sends : List Sent). first ++ sends)
+                  (append_cancel_left old more ((order_of asker (what.Get (commit_key settled.head)), Ok (Plain (reply.Got listed.bytes) listed.tag)) ∷ []) (sym got.sends.grown ∙ listed.is));
+              spells = listed.spells;
+            };
           },
         )
 
@@ -94,6 +116,24 @@ module _ (asker : Asker) (user : List ℕ) (shows : ℕ → Type 0) (cuts : Cuts
             whole = λ objects has. got.whole objects (got_later objects first more has);
             entries = λ objects has. got.entries objects (got_later objects first more has);
             kept = λ objects has. got.kept objects (got_later objects first more has);
+            rounds = has_commit.rounds;
+            mid = first;
+            named = has_commit.named;
+            got = has_commit.got;
+            fetched = record {
+              more = more;
+              had = got.had;
+              sends = record { grown = refl; had_them = got.sends.had_them };
+              asked = got.asked;
+              reached = got.reached;
+              went = got.went;
+              held = got.held;
+              own = got.own;
+              came = got.came;
+              whole = got.whole;
+              entries = got.entries;
+              kept = got.kept;
+            };
           },
         )
 

@@ -1,10 +1,14 @@
 pub mod JoinLemmas
+pub mod SentKeyLemmas
 pub mod GoingLemmas
 pub mod CheckLemmas
 pub mod MeetLemmas
 pub mod PushLemmas
 pub mod RoundLemmas
 pub mod SettleLemmas
+pub mod SkippedLemmas
+pub mod UnpushedLemmas
+pub mod SentPushLemmas
 pub mod PushedLemmas
 pub mod FinishLemmas
 pub mod GetLemmas
@@ -19,7 +23,6 @@ pub mod CheckedOutLemmas
 pub mod GotTreeLemmas
 pub mod GoesUnpushedLemmas
 pub mod StepFileLemmas
-pub mod SkippedLemmas
 pub mod StoppedLemmas
 pub mod BroughtLemmas
 pub mod SeenFolderLemmas

@@ -57,6 +57,7 @@ use Rattle.sync_daemon.proofs.HeadTreeLemmas.{is_tree_of, other_way, tree_for}
 use Rattle.sync_daemon.proofs.NewIndexLemmas.{IsOwnAt, index_names, knows_root, knows_sizes, stands_by}
 use Rattle.sync_daemon.proofs.ReadingLemmas.{pushed_in}
 use Rattle.sync_daemon.proofs.SkippedLemmas.{same_skipped}
+use Rattle.sync_daemon.proofs.UnpushedLemmas.{same_unpushed}
 
 -- ---- a table with another value at each path
 
@@ -278,6 +279,8 @@ module _ (s : Sync) (more : List Sent) (settled : Settled) (is_settled : IsSettl
     ends = (is_settled.going.went, subst (λ (n : ℕ). n ≤ 2) (sym is_settled.going.lates) is_settled.few, is_settled.named);
     leaves = (refl, refl, inr (inr knows_pushed));
     skipped = same_skipped s.told;
+    keeps = same_unpushed (record { lib = s.lib; secret = s.secret }) s.user s.shows s.cuts s.told s.index more;
+    sends = λ c told. (is_settled.going.over c told).sends;
     over = λ c told.
         let over : GoingOver s c more = is_settled.going.over c told in (
           c,

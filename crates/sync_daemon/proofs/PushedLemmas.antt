@@ -1,5 +1,5 @@
 -- A round in which what changed was pushed. The key lemmas are push_goes, push_late and push_fails.
-use Rattle.std.proofs.Common.{◌≡◌, ◌≤◌, ◌+◌, ℕ, Bool, true, false, if◌then◌else◌, All, List, [], ◌∷◌, ◌++◌, map, length, Option, None, Some, is_some, Result, Ok, Err, refl, sym, ap, subst, ◌∙◌, append_assoc, append-nil, inl, inr, true≢false, arith}
+use Rattle.std.proofs.Common.{◌≡◌, ◌≤◌, ◌+◌, ℕ, Bool, true, false, if◌then◌else◌, All, List, [], ◌∷◌, ◌++◌, map, length, Option, None, Some, is_some, Result, Ok, Err, refl, sym, ap, subst, ◌∙◌, append_assoc, append-nil, inl, inr, true≢false, arith, ◌⊎◌}
 use Rattle.std.specs.Option.{option_or}
 use Rattle.std.specs.List.{cons_option, filter_map, flat_map}
 use Rattle.std.proofs.lemmas.Grind.{flat_map-append}
@@ -35,19 +35,22 @@ use Rattle.sync_rules.proofs.WentLemmas.{went_then}
 use Rattle.tree_walk.specs.declared.fault.WalkFault.TheVariants as walk
 use Rattle.tree_fetch.specs.declared.asker.Asker.{Asker}
 use Rattle.tree_push.specs.ChangedOwns.{AreChangedOwns, Owns}
-use Rattle.tree_push.specs.Pushing.{EndsPush, HoldsOffer, IsPushFault, OffersOnce, PushesSo, is_change}
+use Rattle.tree_push.specs.Pushing.{EndsPush, HoldsOffer, IsPushFault, OffersOnce, PushesSo, is_change, PutsChanged, NamesOffered}
 use Rattle.tree_push.specs.declared.standing.Pushed.{Pushed}
 use Rattle.tree_push.specs.declared.standing.Pushed.TheVariants.{Installed, Late}
 use Rattle.tree_push.proofs.HeldOfferLemmas.{held_then}
 use Rattle.sync_daemon.specs.RoundOrder.{AsksSo, IsSoInRound, stage_from}
 use Rattle.sync_daemon.specs.Going.{Going, GoingOver, Refuses, Spares, Sync}
 use Rattle.sync_daemon.specs.Rounds.{EndsLate, IsAskedFor, IsJoined, IsPushed, IsSeen, IsSettled, TellsChange, sync_of}
+use Rattle.sync_daemon.specs.SentKeys.{SendsOffered}
 use Rattle.sync_daemon.specs.declared.round.Settled.{Settled}
 use Rattle.sync_daemon.proofs.GoingLemmas.{had_then, late_then}
 use Rattle.sync_daemon.proofs.JoinLemmas.{asked_then, empty_then, head_then, offers_then, orders_then, pushes_then, round_then, some_then, stage_then}
 use Rattle.sync_daemon.proofs.PushLemmas.{IsUploading, asked_same, asks_nothing, empty_more, empty_on, found_on, push_follows, pushes_on, round_same, some_on, stage_until}
 use Rattle.sync_daemon.proofs.RoundLemmas.{differs_of, not_head}
 use Rattle.sync_daemon.proofs.SettleLemmas.{caused_then}
+use Rattle.sync_daemon.proofs.SentPushLemmas.{push_sends}
+use Rattle.sync_daemon.proofs.UnpushedLemmas.{round_puts}
 
 -- ---- one order that came too late
 
@@ -79,7 +82,8 @@ all_first P (x ∷ xs) ys all = All-cons P x xs (All-head P x (xs ++ ys) all) (a
 module _ (asker : Asker) (user : List ℕ) (shows : ℕ → Type 0) (cuts : Cuts) (told : Option Contents) (index : Index) (start first : List Sent) (late : ℕ) (report : Scan)
     (asked : Option (List ℕ)) (joined : IsJoined (sync_of asker user shows cuts told index) first late true asked) (seen : (c : Contents) → told ≡ Some c → IsSeen cuts c report)
     (changed : TellsChange report index true) (parent : List ℕ) (parent_is : option_or index.base asked ≡ Some parent) (moment : ℕ) (shown : shows moment) (more : List Sent)
-    (result : Result Pushed SyncFault) (pushes : PushesSo (record { lib = asker.lib; secret = asker.secret }) user moment parent told cuts index report more result) where
+    (result : Result Pushed SyncFault) (pushes : PushesSo (record { lib = asker.lib; secret = asker.secret }) user moment parent told cuts index report more result)
+    (needs : (more ≡ []) ⊎ NamesOffered (record { lib = asker.lib; secret = asker.secret }) user moment parent index report more) where
   abbrev this : Sync
   this = sync_of asker user shows cuts told index
 
@@ -172,6 +176,9 @@ module _ (asker : Asker) (user : List ℕ) (shows : ℕ → Type 0) (cuts : Cuts
       offers = offers_then cuts c index user shows [] first more was.uploads.offers offers_all;
     }
 
+    sends_over : SendsOffered asker user shows cuts c index [] (first ++ more)
+    sends_over = push_sends asker user shows cuts c index first joined.fresh moment shown parent report (seen c is).scanned more pushes.uploads needs was.sends
+
     order_over : GoesInOrder cuts c index (first ++ more)
     order_over = record {
       scanned = inr (seen c is).within;
@@ -211,7 +218,7 @@ module _ (asker : Asker) (user : List ℕ) (shows : ℕ → Type 0) (cuts : Cuts
       unbegun = unbegun;
       over = λ c is.
           let had : (had : List (Key × List ℕ)) × IsHad (first ++ more) had = had_of c is in
-          record { uploads = uploads_over c is; order = order_over c is; found = found_over c is; had = had.0; is_had = had.1 };
+          record { uploads = uploads_over c is; order = order_over c is; found = found_over c is; sends = sends_over c is; had = had.0; is_had = had.1 };
     }
 
     all_split : first ++ more ≡ (first ++ done) ++ sent ∷ []
@@ -222,12 +229,13 @@ module _ (asker : Asker) (user : List ℕ) (shows : ℕ → Type 0) (cuts : Cuts
   abbrev pushed_to : Owns → List ℕ → List ℕ → Settled
   pushed_to owns commit head = record { scan = report; owns = owns; head = head; pushed = Some commit; moment = moment; differs = false }
 
-  pub push_goes : (owns : Owns) → AreChangedOwns index.entries report.paths owns → (commit head : List ℕ) → EndsPush more (Ok (Installed commit head)) → HoldsOffer (record { lib = asker.lib; secret = asker.secret }) user moment parent index report more commit
+  pub push_goes : (owns : Owns) → AreChangedOwns index.entries report.paths owns → (commit head : List ℕ) → EndsPush more (Ok (Installed commit head)) → HoldsOffer (record { lib = asker.lib; secret = asker.secret }) user moment parent index report more commit × PutsChanged index report more
       → IsSettled this (first ++ more) (pushed_to owns commit head)
   unfolding was had_of
   push_goes owns are commit head (went, done, order, tag, split, asks, none) held =
       let sent : Sent = (order, Ok (Plain (reply.Updated head) tag)) in
       let whole : first ++ more ≡ (first ++ done) ++ sent ∷ [] = all_split done sent commit split asks went in
+      let of_round : last_round (first ++ more) [] ≡ last_round first [] ++ more = round_then [] first more ∙ round_same (last_round first []) more pushes.uploads in
       let ups : All IsUploading done = all_first IsUploading done (sent ∷ []) (subst (All IsUploading) split pushes.uploads) in
       record {
         stage = Stands;
@@ -246,7 +254,10 @@ module _ (asker : Asker) (user : List ℕ) (shows : ℕ → Type 0) (cuts : Cuts
             subst (λ (other : List ℕ). IsPushed this (first ++ more) (pushed_to owns commit head) other) one (record {
               ends = (first ++ done, sent, whole, asks);
               parent = parent;
-              offer = held_then (record { lib = asker.lib; secret = asker.secret }) user moment parent index report first more commit held;
+              offer = held_then (record { lib = asker.lib; secret = asker.secret }) user moment parent index report first more commit held.0;
+              round = subst (λ (sends : List Sent). HoldsOffer (record { lib = asker.lib; secret = asker.secret }) user moment parent index report sends commit) (sym of_round)
+                  (held_then (record { lib = asker.lib; secret = asker.secret }) user moment parent index report (last_round first []) more commit held.0);
+              put = round_puts index report first more joined.fresh of_round held.1;
             });
         seen = seen;
         agrees = λ c is none_pushed same. absurd (true≢false (ap is_some none_pushed));
@@ -323,6 +334,7 @@ module _ (asker : Asker) (user : List ℕ) (shows : ℕ → Type 0) (cuts : Cuts
     );
     over = λ c is. record {
       uploads = uploads_over c is;
+      sends = sends_over c is;
       order = order_over c is;
       comes = comes c is f cause;
       cause = inl (tree_none f cause, begun_none f cause);

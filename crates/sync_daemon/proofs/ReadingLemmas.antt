@@ -41,11 +41,13 @@ use Rattle.tree_fetch.specs.declared.asker.Asker.{Asker}
 use Rattle.sync_daemon.specs.RoundOrder.{IsSoInRound, stage_from}
 use Rattle.sync_daemon.specs.Going.{Going, Stops, Sync}
 use Rattle.sync_daemon.specs.Rounds.{Differs, IsSeen, IsSettled, sync_of}
+use Rattle.sync_daemon.specs.Unpushed.{IsKnownOrTaken}
 use Rattle.sync_daemon.specs.declared.round.Settled.{Settled}
 use Rattle.sync_daemon.proofs.GetLemmas.{GetsOver, IsGetting, agrees_then, asked_gets, behind_get, denies_then, fails_gets, found_over_gets, goes_gets, head_gets, stage_gets}
 use Rattle.sync_daemon.proofs.GoingLemmas.{had_then, last_then, last_with, refused_not_well}
 use Rattle.sync_daemon.proofs.JoinLemmas.{asked_then, head_then, stage_then}
 use Rattle.sync_daemon.proofs.TreeLemmas.{asks_of, gets_of, small_of, timely_of}
+use Rattle.sync_daemon.proofs.UnpushedLemmas.{kept_later, settled_kept}
 
 -- ---- where a sync stands that asks for the head's objects
 
@@ -66,6 +68,7 @@ pub record IsReading (s : Sync) (more : List Sent) (settled : Settled) : Type 0 
   pub seen : (c : Contents) → s.told ≡ Some c → IsSeen s.cuts c settled.scan
   pub agrees : (c : Contents) → s.told ≡ Some c → settled.pushed ≡ None → settled.differs ≡ false → Agrees s.cuts c s.index
   pub differs : settled.differs ≡ true → Differs s more settled
+  pub kept : (c : Contents) → s.told ≡ Some c → settled.differs ≡ false → IsKnownOrTaken (record { lib = s.lib; secret = s.secret }) s.user s.shows s.cuts c s.index more
   pub offered : (c : Contents) → s.told ≡ Some c → (had : List (Key × List ℕ)) × IsHad more had × ((objects : Objects) (base : Tree) → Over objects s.cuts c s.index base had
       → IsOfferOf objects s.cuts c s.index moment s.user (asked_head more None) settled.pushed)
 
@@ -114,6 +117,7 @@ reading_begins s more settled is = record {
   seen = is.seen;
   agrees = is.agrees;
   differs = is.differs;
+  kept = settled_kept s more settled is;
   offered = is.offered;
 }
 
@@ -153,6 +157,7 @@ module _ (s : Sync) (first : List Sent) (settled : Settled) (is : IsReading s fi
       seen = is.seen;
       agrees = is.agrees;
       differs = λ apart. differs_then s first more settled gets (is.differs apart);
+      kept = λ c told same. kept_later (record { lib = s.lib; secret = s.secret }) s.user s.shows s.cuts c s.index first more (is.kept c told same);
       offered = λ c told.
           let was = is.offered c told in (
             was.0 ++ had,

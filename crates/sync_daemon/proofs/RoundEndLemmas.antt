@@ -13,7 +13,7 @@ use Rattle.sync_rules.specs.declared.fault.SyncFault.{SyncFault}
 use Rattle.sync_rules.specs.declared.fault.SyncFault.TheVariants as fault
 use Rattle.tree_fetch.specs.declared.asker.Asker.{Asker}
 use Rattle.tree_push.specs.ChangedOwns.{AreChangedOwns, Owns}
-use Rattle.tree_push.specs.Pushing.{PushesSo}
+use Rattle.tree_push.specs.Pushing.{PushesSo, NeedsSo}
 use Rattle.tree_push.specs.declared.standing.Pushed.{Pushed}
 use Rattle.tree_push.specs.declared.standing.Pushed.TheVariants.{Installed, Late}
 use Rattle.sync_daemon.specs.Going.{Going, Spares, Stops, Sync}
@@ -25,6 +25,7 @@ use Rattle.sync_daemon.proofs.FinishLemmas.{stale_ends}
 use Rattle.sync_daemon.proofs.GoingLemmas.{going_begins}
 use Rattle.sync_daemon.proofs.PushedLemmas.{push_fails, push_goes, push_late}
 use Rattle.sync_daemon.proofs.SettleLemmas.{denied}
+use Rattle.sync_daemon.proofs.SentPushLemmas.{needs_of}
 
 none_of : (base : Option (List ℕ)) → is_some base ≡ false → base ≡ None
 none_of None unbased = refl
@@ -51,7 +52,7 @@ module _ (asker : Asker) (user : List ℕ) (shows : ℕ → Type 0) (cuts : Cuts
 module _ (asker : Asker) (user : List ℕ) (shows : ℕ → Type 0) (cuts : Cuts) (told : Option Contents) (index : Index) (start first : List Sent) (late : ℕ) (report : Scan)
     (asked : Option (List ℕ)) (joined : IsJoined (sync_of asker user shows cuts told index) first late true asked) (seen : (c : Contents) → told ≡ Some c → IsSeen cuts c report)
     (changed : TellsChange report index true) (parent : List ℕ) (parent_is : option_or index.base asked ≡ Some parent) (moment : ℕ) (shown : shows moment)
-    (old new : List Sent) (begun : old ≡ start ++ first) where
+    (old new : List Sent) (begun : old ≡ start ++ first) (needs : NeedsSo (record { lib = asker.lib; secret = asker.secret }) user moment parent index report old new) where
   abbrev here : Sync
   here = sync_of asker user shows cuts told index
 
@@ -67,18 +68,18 @@ module _ (asker : Asker) (user : List ℕ) (shows : ℕ → Type 0) (cuts : Cuts
   round_pushed owns are (Installed commit head) (more, grown, pushes) = (
     first ++ more,
     grown_to more grown,
-    push_goes asker user shows cuts told index start first late report asked joined seen changed parent parent_is moment shown more (Ok (Installed commit head)) pushes owns are commit head
+    push_goes asker user shows cuts told index start first late report asked joined seen changed parent parent_is moment shown more (Ok (Installed commit head)) pushes (needs_of (record { lib = asker.lib; secret = asker.secret }) user moment parent index report old new more needs grown) owns are commit head
         pushes.ends pushes.holds,
   )
   round_pushed owns are (Late count) (more, grown, pushes) =
-      let went = push_late asker user shows cuts told index start first late report asked joined seen changed parent parent_is moment shown more (Ok (Late count)) pushes count pushes.ends in
+      let went = push_late asker user shows cuts told index start first late report asked joined seen changed parent parent_is moment shown more (Ok (Late count)) pushes (needs_of (record { lib = asker.lib; secret = asker.secret }) user moment parent index report old new more needs grown) count pushes.ends in
       (first ++ more, grown_to more grown, went.0, went.1, went.2)
 
   pub round_stopped : (f : SyncFault) → Pushes (Err f) → Stops here start new f
   round_stopped f (more, grown, pushes) = (
     first ++ more,
     grown_to more grown,
-    push_fails asker user shows cuts told index start first late report asked joined seen changed parent parent_is moment shown more (Err f) pushes f pushes.ends
+    push_fails asker user shows cuts told index start first late report asked joined seen changed parent parent_is moment shown more (Err f) pushes (needs_of (record { lib = asker.lib; secret = asker.secret }) user moment parent index report old new more needs grown) f pushes.ends
         (λ c is. pushes.no_change c is (seen c is).formed (seen c is).scanned (seen c is).within),
   )
 

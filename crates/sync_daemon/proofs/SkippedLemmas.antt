@@ -48,7 +48,7 @@ none_of P [] path none all = refl
 none_of P (other ∷ paths) path none all =
     ap (λ (b : Bool). b || is_one_of paths path) (apart_by P path other none all.0 (eq_by_cmp path_cmp path other) refl) ∙ none_of P paths path none all.1
 
-one_of_front : (front rest : List PathV) (path : PathV) → is_one_of (front ++ rest) path ≡ false → is_one_of front path ≡ false
+pub one_of_front : (front rest : List PathV) (path : PathV) → is_one_of (front ++ rest) path ≡ false → is_one_of front path ≡ false
 one_of_front [] rest path none = refl
 one_of_front (p ∷ front) rest path none = by (eq_by_cmp path_cmp path p) none (one_of_front front rest path)
   where

@@ -54,15 +54,16 @@ use Rattle.sync_daemon.specs.declared.round.Settled.{Settled}
 use Rattle.sync_daemon.proofs.BlockSendLemmas.{IsBlockAsk, asked_stopped, asks_blocks, gets_blocks, needed_blocks}
 use Rattle.sync_daemon.proofs.CheckedOutLemmas.{asked_then_written, none_blocked, plan_is, pushed_so}
 use Rattle.sync_daemon.proofs.CheckoutFaultLemmas.{IsOfCheckout, caused_behind, never_late, of_checkout, some_value}
-use Rattle.sync_daemon.proofs.GetLemmas.{IsGetting, asked_gets, found_over_gets, order_gets, orders_gets, uploads_gets}
+use Rattle.sync_daemon.proofs.GetLemmas.{IsGetting, asked_gets, found_over_gets, order_gets, orders_gets, uploads_gets, sends_gets}
 use Rattle.sync_daemon.proofs.GoingLemmas.{fails_here, had_then, late_then, refused_not_well}
 use Rattle.sync_daemon.proofs.GotTreeLemmas.{HasTree, IsOfHead, blocks_of_head}
 use Rattle.sync_daemon.proofs.HeadTreeLemmas.{alone_alike, is_tree_of, tree_for}
 use Rattle.sync_daemon.proofs.JoinLemmas.{asked_then}
 use Rattle.sync_daemon.proofs.ReadingLemmas.{names}
 use Rattle.sync_daemon.proofs.SkippedLemmas.{front_skipped}
+use Rattle.sync_daemon.proofs.UnpushedLemmas.{front_touched}
 use Rattle.sync_daemon.proofs.StepFileLemmas.{file_from, front_of, nameless_kept, wrong_tree}
-use Rattle.sync_daemon.proofs.GoesUnpushedLemmas.{goes_unpushed}
+use Rattle.sync_daemon.proofs.GoesUnpushedLemmas.{goes_unpushed, loses_none}
 use Rattle.sync_daemon.proofs.WrittenLemmas.{AreIn, all_planned, made_for, made_objects, made_of}
 
 module _ (asker : Asker) (user : List ℕ) (shows : ℕ → Type 0) (cuts : Cuts) (told : Option Contents) (index : Index) (before : List Sent) (settled : Settled) (commit : Commit)
@@ -311,6 +312,15 @@ module _ (asker : Asker) (user : List ℕ) (shows : ℕ → Type 0) (cuts : Cuts
       skipped = λ c d first later path is.
           front_skipped tree.objects cuts c settled.scan plan (planned.looks cuts c (got.reading.seen c first).scanned (got.reading.seen c first).within) writes made told now first stops.gone
           stops.kept stops.done stops.rest stops.removed stops.written stops.others d later path is;
+      keeps = record {
+        tells = stops.tells;
+        loses = λ c d first held. inr (loses_none asker user shows cuts told index before settled commit tree got apart may more gets c first);
+        touches = λ c d first held.
+            inr (front_touched asker cuts c index settled (got.reading.seen c first).scanned got.rounds got.mid before more got.named commit got.got tree got.fetched plan writes planned made told now d
+            first held stops.gone stops.kept stops.done stops.rest stops.removed stops.written stops.others);
+      };
+      sends = λ c is.
+          sends_gets this before more got.reading.stage got.reading.late got.reading.going gets got.reading.may_get syncs needed c (got.reading.going.over c is).sends;
       over = λ c is.
           let was : GoingOver this c before = got.reading.going.over c is in (
             (holds_now c is).0,

@@ -1,8 +1,8 @@
 -- What the second half of a sync leaves: the index is made of what was seen, where the head is the commit that was pushed; else the
 -- head's tree is got, and the folder is brought to it. Our own. Read FinishesAs, at the end, then KnowsOffered, BringsSo and Changes.
-use Rattle.std.specs.Prelude.{ℕ, ◌≡◌, ◌⊎◌, ◌&&◌, not, Bool, true, false, List, [], ◌∷◌, length, map, Option, None, Some, option_map, Result, Ok, Err, ⊤}
+use Rattle.std.specs.Prelude.{ℕ, ◌≡◌, ◌⊎◌, ◌&&◌, not, Bool, true, false, List, [], ◌∷◌, length, map, Option, None, Some, option_map, Result, Ok, Err, ⊤, reverse}
 use Rattle.std.specs.FinMap as fin
-use Rattle.std.specs.List.{AllByRecursion, IsDistinct, flat_map}
+use Rattle.std.specs.List.{AllByRecursion, IsDistinct, flat_map, filter_map}
 use Rattle.std.specs.Ordering.{eq_by_cmp}
 use Rattle.std.specs.Str.{bytes_eq}
 use Rattle.ids.specs.Key.{Objects}
@@ -29,7 +29,7 @@ use Rattle.sync_rules.specs.declared.fault.SyncFault.TheVariants as fault
 use Rattle.sync_rules.specs.declared.synced.Synced.{Synced}
 use Rattle.tree_walk.specs.Files.{file_at}
 use Rattle.tree_checkout.specs.CheckingOut.{ChecksOut, StopsOut}
-use Rattle.tree_checkout.specs.Planning.{IsPlanFault, LooksScanned, PlansSo, dues_at}
+use Rattle.tree_checkout.specs.Planning.{IsPlanFault, LooksScanned, PlansSo, dues_at, doomed_path}
 use Rattle.tree_checkout.specs.SecondLook.{LooksFirst}
 use Rattle.tree_checkout.specs.Steps.{LooksUnwritten, paths_of}
 use Rattle.tree_checkout.specs.Writing.{is_change}
@@ -43,7 +43,7 @@ use Rattle.tree_checkout.specs.declared.steps.WriteNode.{WriteNode}
 use Rattle.tree_checkout.specs.declared.steps.WriteNode.TheVariants as write
 use Rattle.tree_push.specs.ChangedOwns.{own_or_known}
 use Rattle.tree_push.specs.OfferedEntries.{IsSeenFolder, KnownPaths, SeenPaths, file_entry, offered_entry}
-use Rattle.tree_fetch.specs.Fetching.{FetchesCommit, FetchesTree, IsFetchedCommit, IsFetchedTree}
+use Rattle.tree_fetch.specs.Fetching.{FetchesCommit, FetchesTree, IsFetchedCommit, IsFetchedTree, GotCommit}
 use Rattle.tree_fetch.specs.declared.asker.Asker.{Asker}
 use Rattle.tree_fetch.specs.declared.tree.FetchedTree.{FetchedTree}
 use Rattle.sync_daemon.specs.Finishing.{spared_of}
@@ -146,6 +146,7 @@ ChangesSo asker cuts scan entries plan writes old new told now (Err f) = StopsCh
 pub record IsPlanned (scan : Scan) (index : Index) (entries : fin.FinMap path_cmp Entry) (pushed : Bool) (plan : Plan) : Type 0 where
   pub plans : (cuts : Cuts) (c : Contents) → IsScan cuts c scan → PlansSo cuts c index entries pushed (Ok plan)
   pub looks : (cuts : Cuts) (c : Contents) → IsScan cuts c scan → IsWithinLimits c → LooksScanned cuts c scan plan
+  pub gone : plan.doomed ≡ reverse (filter_map (doomed_path scan entries) (fin.entries scan.paths))
   pub written : plan.writes ≡ flat_map (dues_at scan index pushed) (fin.entries entries)
 
 -- there is none
@@ -237,11 +238,11 @@ index_of index settled done = record { lib = index.lib; base = Some settled.head
 
 -- the head's commit and its tree were got, and the folder was brought to it
 abbrev pub ReachesAs : Asker → Cuts → Settled → (old new : List Sent) → (told now : Option Contents) → (index later : Index) → Result Synced SyncFault → Type 0
-ReachesAs asker cuts settled old new told now index later (Ok s) = (mid : List Sent) × (commit : Commit) × (done : Done) × IsFetchedCommit asker old mid settled.head commit
+ReachesAs asker cuts settled old new told now index later (Ok s) = (mid : List Sent) × (commit : Commit) × (done : Done) × IsFetchedCommit asker old mid settled.head commit × GotCommit asker old mid settled.head commit
     × BringsSo asker cuts settled.scan index (is_pushed settled.pushed) settled.differs commit.root mid new told now (Ok done)
     × (later ≡ index_of index settled done) × (s ≡ synced_of settled commit done)
 ReachesAs asker cuts settled old new told now index later (Err f) = (later ≡ index) × ((FetchesCommit asker old new settled.head (Err f) × (now ≡ told))
-    ⊎ ((mid : List Sent) × (commit : Commit) × IsFetchedCommit asker old mid settled.head commit
+    ⊎ ((mid : List Sent) × (commit : Commit) × IsFetchedCommit asker old mid settled.head commit × GotCommit asker old mid settled.head commit
     × BringsSo asker cuts settled.scan index (is_pushed settled.pushed) settled.differs commit.root mid new told now (Err f)))
 
 -- no step is begun: the library did not go on from the index's base, and yet the folder differs; or memory was wanting

@@ -11,6 +11,8 @@ use Rattle.sync_rules.specs.declared.fault.SyncFault.{SyncFault}
 use Rattle.sync_rules.specs.declared.synced.Synced.{Synced}
 use Rattle.sync_daemon.specs.RoundOrder.{AsksSo, IsSoInRound}
 use Rattle.sync_daemon.specs.Syncing.{KeepsSkipped}
+use Rattle.sync_daemon.specs.SentKeys.{SendsOffered}
+use Rattle.sync_daemon.specs.Unpushed.{KeepsUnpushed}
 use Rattle.sync_daemon.specs.Going.{Sync}
 use Rattle.sync_daemon.specs.Rounds.{sync_of}
 use Rattle.sync_daemon.specs.declared.round.Settled.{Settled}
@@ -21,6 +23,8 @@ pub record Finishes (s : Sync) (now : Option Contents) (j : Index) (more : List 
   pub ends : EndsSo (IsSoInRound s.cuts s.told s.index more) more result
   pub leaves : LeavesIndex s.index j more result
   pub skipped : KeepsSkipped s.told now
+  pub keeps : KeepsUnpushed (record { lib = s.lib; secret = s.secret }) s.user s.shows s.cuts s.told now s.index more
+  pub sends : (c : Contents) → s.told ≡ Some c → SendsOffered (record { lib = s.lib; secret = s.secret }) s.user s.shows s.cuts c s.index [] more
   pub over : (c : Contents) → s.told ≡ Some c → SyncsSo s.cuts c now s.index j s.user more s.shows result
 
 abbrev pub FinishesSo : Sync → Option Contents → Index → (start new : List Sent) → Result Synced SyncFault → Type 0

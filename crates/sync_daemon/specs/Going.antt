@@ -17,6 +17,7 @@ use Rattle.sync_rules.specs.Premises.{Over}
 use Rattle.sync_rules.specs.Uploads.{UploadsSo}
 use Rattle.sync_rules.specs.declared.fault.SyncFault.{SyncFault}
 use Rattle.sync_daemon.specs.RoundOrder.{AsksSo, IsSoInRound, stage_from}
+use Rattle.sync_daemon.specs.SentKeys.{SendsOffered}
 
 -- ---- one sync
 
@@ -38,6 +39,7 @@ pub record GoingOver (s : Sync) (c : Contents) (more : List Sent) : Type 0 where
   pub uploads : UploadsSo s.cuts c s.index s.user more s.shows
   pub order : GoesInOrder s.cuts c s.index more
   pub found : s.index.base ≡ None → HasPath c → FindsSome more → ⊥
+  pub sends : SendsOffered (record { lib = s.lib; secret = s.secret }) s.user s.shows s.cuts c s.index [] more
   pub had : List (Key × List ℕ)
   pub is_had : IsHad more had
 
@@ -68,6 +70,7 @@ pub record RefusesOver (s : Sync) (c : Contents) (more : List Sent) (f : SyncFau
   pub order : GoesInOrder s.cuts c s.index more
   pub comes : ComesInOrder c s.index more f
   pub cause : CausedUntouched s c more f
+  pub sends : SendsOffered (record { lib = s.lib; secret = s.secret }) s.user s.shows s.cuts c s.index [] more
 
 pub record Refuses (s : Sync) (more : List Sent) (f : SyncFault) : Type 0 where
   pub orders : AsksSo s.lib s.secret s.user s.shows s.index.base more

@@ -1,8 +1,10 @@
 pub mod RoundOrder
+pub mod SentKeys
 pub mod Going
 pub mod Asking
 pub mod Joining
 pub mod Rounds
+pub mod Unpushed
 pub mod Syncing
 pub mod Finishing
 pub mod InterruptedCheckout
@@ -10,3 +12,4 @@ pub mod Bringing
 pub mod SeenFolder
 pub mod Turns
 pub mod FilesKnown
+pub mod Touching

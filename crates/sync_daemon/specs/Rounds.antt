@@ -27,7 +27,7 @@ use Rattle.sync_rules.specs.declared.fault.SyncFault.{SyncFault}
 use Rattle.sync_rules.specs.declared.fault.SyncFault.TheVariants as fault
 use Rattle.tree_fetch.specs.declared.asker.Asker.{Asker}
 use Rattle.tree_push.specs.ChangedOwns.{AreChangedOwns, Owns}
-use Rattle.tree_push.specs.Pushing.{HoldsOffer}
+use Rattle.tree_push.specs.Pushing.{HoldsOffer, PutsChanged}
 use Rattle.tree_push.specs.declared.standing.Pushed.{Pushed}
 use Rattle.tree_push.specs.declared.standing.Pushed.TheVariants as pushed
 use Rattle.sync_daemon.specs.RoundOrder.{IsBehindChecks, stage_from}
@@ -121,11 +121,14 @@ pub record IsJoined (s : Sync) (more : List Sent) (late : ℕ) (may : Bool) (ask
 
 -- ---- what it comes to
 
--- what was pushed: the update is the last order, and of which texts the commit is, over every folder
+-- what was pushed: the update is the last order, and of which texts the commit is, over every folder; the same of what was sent in the
+-- round alone, in which all was put that is new or changed
 pub record IsPushed (s : Sync) (more : List Sent) (settled : Settled) (id : List ℕ) : Type 0 where
   pub ends : EndsAtUpdate more id
   pub parent : List ℕ
   pub offer : HoldsOffer (record { lib = s.lib; secret = s.secret }) s.user settled.moment parent s.index settled.scan more id
+  pub round : HoldsOffer (record { lib = s.lib; secret = s.secret }) s.user settled.moment parent s.index settled.scan (last_round more []) id
+  pub put : PutsChanged s.index settled.scan (last_round more [])
 
 -- nothing was pushed though the folder differs from its index, since an upload is denied
 pub record Differs (s : Sync) (more : List Sent) (settled : Settled) : Type 0 where

@@ -3,6 +3,7 @@ ghost use Rattle.std.specs.Prelude.{◌≡◌, ◌↔◌, IfOk, IsTrue, length, 
 ghost use Rattle.ids.specs.FaultCount.{FailsBy};
 ghost use Rattle.sync_rules.specs.Causes.{is_folder_fault};
 ghost use Rattle.tree_push.specs.ChangedOwns.{AreChangedOwns};
+ghost use Rattle.tree_checkout.specs.Touches.{Touches};
 ghost use Rattle.sync_daemon.specs.Bringing.{BringsSo, ChangesSo, MayChange};
 ghost use Rattle.sync_daemon.specs.declared.bringing.TheConstants.{PIECE};
 
@@ -50,6 +51,7 @@ pub(crate) fn bring<F: Folder, R: Remote>(
 ) -> Result<Done, SyncFault>
     requires ids { AreChangedOwns index.now.entries settled.now.scan.paths settled.now.owns }
     ensures value { BringsSo asker.now cuts settled.now.scan index.now pushed settled.now.differs root (R.sends remote.old) (R.sends remote.new) (F.told folder.old) (F.told folder.new) result }
+    ensures touches { Touches cuts settled.now.scan (F.trace folder.old) (F.trace folder.new) }
     ensures stays { R.peer remote.new ≡ R.peer remote.old }
     ensures faults { FailsBy is_folder_fault (F.faults folder.old) (F.faults folder.new) result }
 {
@@ -105,6 +107,7 @@ fn change<F: Folder, R: Remote>(
     writes: Items<Write>,
 ) -> Result<Done, SyncFault>
     ensures value { ChangesSo asker.now cuts scan.now entries.now plan writes (R.sends remote.old) (R.sends remote.new) (F.told folder.old) (F.told folder.new) result }
+    ensures touches { Touches cuts scan.now (F.trace folder.old) (F.trace folder.new) }
     ensures stays { R.peer remote.new ≡ R.peer remote.old }
     ensures faults { FailsBy is_folder_fault (F.faults folder.old) (F.faults folder.new) result }
 {

@@ -4,6 +4,7 @@ ghost use Rattle.std.specs.Str.{bytes_eq};
 ghost use Rattle.ids.specs.FaultCount.{FailsBy};
 ghost use Rattle.sync_rules.specs.Causes.{is_folder_fault};
 ghost use Rattle.tree_push.specs.ChangedOwns.{AreChangedOwns};
+ghost use Rattle.tree_checkout.specs.Touches.{Touches};
 ghost use Rattle.sync_daemon.specs.Bringing.{FinishesAs, IsDone, KnowsSo, ReachesAs, is_pushed, tells_conflict};
 ghost use Rattle.sync_daemon.specs.Finishing.{spared_of};
 
@@ -36,6 +37,7 @@ pub(crate) fn finish<F: Folder, R: Remote>(
 ) -> Result<Synced, SyncFault>
     requires ids { AreChangedOwns index.old.entries settled.scan.paths settled.owns }
     ensures value { FinishesAs asker.now user.now cuts settled (R.sends remote.old) (R.sends remote.new) (F.told folder.old) (F.told folder.new) index.old index.new result }
+    ensures touches { Touches cuts settled.scan (F.trace folder.old) (F.trace folder.new) }
     ensures stays { R.peer remote.new ≡ R.peer remote.old }
     ensures faults { FailsBy is_folder_fault (F.faults folder.old) (F.faults folder.new) result }
 {
@@ -93,6 +95,7 @@ fn reach<F: Folder, R: Remote>(
 ) -> Result<Synced, SyncFault>
     requires ids { AreChangedOwns index.old.entries settled.scan.paths settled.owns }
     ensures value { ReachesAs asker.now cuts settled (R.sends remote.old) (R.sends remote.new) (F.told folder.old) (F.told folder.new) index.old index.new result }
+    ensures touches { Touches cuts settled.scan (F.trace folder.old) (F.trace folder.new) }
     ensures stays { R.peer remote.new ≡ R.peer remote.old }
     ensures faults { FailsBy is_folder_fault (F.faults folder.old) (F.faults folder.new) result }
 {

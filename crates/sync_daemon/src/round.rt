@@ -3,6 +3,7 @@ ghost use Rattle.std.specs.Prelude.{◌≡◌, ◌≤◌, ◌≢◌, ◌++◌, �
 ghost use Rattle.ids.specs.FaultCount.{FailsBy};
 ghost use Rattle.ids.specs.ObjectId.{nil};
 ghost use Rattle.std.specs.Option.{option_or};
+ghost use Rattle.folder_side.specs.Calls.{Glances};
 ghost use Rattle.folder_side.specs.Folder.{Contents};
 ghost use Rattle.remote_calls.specs.Sends.{Sent};
 ghost use Rattle.sync_rules.specs.Causes.{is_folder_fault};
@@ -65,6 +66,7 @@ pub(crate) fn rounds<F: Folder, R: Remote, C: Clock>(
     requires library { asker.now.lib ≡ index.now.lib }
     ensures value { RoundsSo (sync_of asker.now user.now (C.shows clock.now) cuts (F.told folder.old) index.now) (R.sends remote.old) (R.sends remote.new) result }
     ensures stays { (F.told folder.new ≡ F.told folder.old) × (R.peer remote.new ≡ R.peer remote.old) }
+    ensures traced { Glances (F.trace folder.old) (F.trace folder.new) }
     ensures faults { FailsBy is_folder_fault (F.faults folder.old) (F.faults folder.new) result }
 {
     let mut late: u64 = 0;
@@ -97,6 +99,7 @@ fn one_round<F: Folder, R: Remote, C: Clock>(
     requires library { asker.now.lib ≡ index.now.lib }
     ensures value { (start before : List Sent) (late : ℕ) → R.sends remote.old ≡ start ++ before → Going (sync_of asker.now user.now (C.shows clock.now) cuts (F.told folder.old) index.now) before Begins late → late ≤ 2 → Spares (sync_of asker.now user.now (C.shows clock.now) cuts (F.told folder.old) index.now) before → RoundSo (sync_of asker.now user.now (C.shows clock.now) cuts (F.told folder.old) index.now) start (R.sends remote.new) late result }
     ensures stays { (F.told folder.new ≡ F.told folder.old) × (R.peer remote.new ≡ R.peer remote.old) }
+    ensures traced { Glances (F.trace folder.old) (F.trace folder.new) }
     ensures faults { FailsBy is_folder_fault (F.faults folder.old) (F.faults folder.new) result }
 {
     let may = match may_upload(alloc, remote, asker) {
@@ -121,6 +124,7 @@ fn checked_round<F: Folder, R: Remote, C: Clock>(
     requires library { asker.now.lib ≡ index.now.lib }
     ensures value { (start before : List Sent) (late : ℕ) → R.sends remote.old ≡ start ++ before → IsChecked (sync_of asker.now user.now (C.shows clock.now) cuts (F.told folder.old) index.now) before late may → RoundSo (sync_of asker.now user.now (C.shows clock.now) cuts (F.told folder.old) index.now) start (R.sends remote.new) late result }
     ensures stays { (F.told folder.new ≡ F.told folder.old) × (R.peer remote.new ≡ R.peer remote.old) }
+    ensures traced { Glances (F.trace folder.old) (F.trace folder.new) }
     ensures faults { FailsBy is_folder_fault (F.faults folder.old) (F.faults folder.new) result }
 {
     remote.rest();
@@ -150,6 +154,7 @@ fn scanned_round<F: Folder, R: Remote, C: Clock>(
     requires library { asker.now.lib ≡ index.now.lib }
     ensures value { (start before : List Sent) (late : ℕ) → R.sends remote.old ≡ start ++ before → IsChecked (sync_of asker.now user.now (C.shows clock.now) cuts (F.told folder.old) index.now) before late may → ((c : Contents) → F.told folder.old ≡ Some c → IsSeen cuts c report) → RoundSo (sync_of asker.now user.now (C.shows clock.now) cuts (F.told folder.old) index.now) start (R.sends remote.new) late result }
     ensures stays { (F.told folder.new ≡ F.told folder.old) × (R.peer remote.new ≡ R.peer remote.old) }
+    ensures traced { Glances (F.trace folder.old) (F.trace folder.new) }
     ensures faults { FailsBy is_folder_fault (F.faults folder.old) (F.faults folder.new) result }
 {
     let asked = match join(alloc, remote, asker, index, &report) {
@@ -178,6 +183,7 @@ fn joined_round<F: Folder, R: Remote, C: Clock>(
     requires library { asker.now.lib ≡ index.now.lib }
     ensures value { (start before : List Sent) (late : ℕ) → R.sends remote.old ≡ start ++ before → IsJoined (sync_of asker.now user.now (C.shows clock.now) cuts (F.told folder.old) index.now) before late may asked → ((c : Contents) → F.told folder.old ≡ Some c → IsSeen cuts c report) → RoundSo (sync_of asker.now user.now (C.shows clock.now) cuts (F.told folder.old) index.now) start (R.sends remote.new) late result }
     ensures stays { (F.told folder.new ≡ F.told folder.old) × (R.peer remote.new ≡ R.peer remote.old) }
+    ensures traced { Glances (F.trace folder.old) (F.trace folder.new) }
     ensures faults { FailsBy is_folder_fault (F.faults folder.old) (F.faults folder.new) result }
 {
     let Found { is_changed, owns } = match find_changes(alloc, &report, index) {
@@ -223,6 +229,7 @@ fn unpushed_round<F: Folder, R: Remote, C: Clock>(
     requires ids { AreChangedOwns index.now.entries report.paths owns }
     ensures value { (start before : List Sent) (late : ℕ) → R.sends remote.old ≡ start ++ before → IsJoined (sync_of asker.now user.now (C.shows clock.now) cuts (F.told folder.old) index.now) before late may asked → ((c : Contents) → F.told folder.old ≡ Some c → IsSeen cuts c report) → TellsChange report index.now differs → MayDiffer differs may index.now.base → RoundSo (sync_of asker.now user.now (C.shows clock.now) cuts (F.told folder.old) index.now) start (R.sends remote.new) late result }
     ensures stays { (F.told folder.new ≡ F.told folder.old) × (R.peer remote.new ≡ R.peer remote.old) }
+    ensures traced { Glances (F.trace folder.old) (F.trace folder.new) }
     ensures faults { FailsBy is_folder_fault (F.faults folder.old) (F.faults folder.new) result }
 {
     let moment = clock.now();
@@ -257,6 +264,7 @@ fn changed_round<F: Folder, R: Remote, C: Clock>(
     requires ids { AreChangedOwns index.now.entries report.paths owns }
     ensures value { (start before : List Sent) (late : ℕ) → R.sends remote.old ≡ start ++ before → IsJoined (sync_of asker.now user.now (C.shows clock.now) cuts (F.told folder.old) index.now) before late true asked → ((c : Contents) → F.told folder.old ≡ Some c → IsSeen cuts c report) → TellsChange report index.now true → RoundSo (sync_of asker.now user.now (C.shows clock.now) cuts (F.told folder.old) index.now) start (R.sends remote.new) late result }
     ensures stays { (F.told folder.new ≡ F.told folder.old) × (R.peer remote.new ≡ R.peer remote.old) }
+    ensures traced { Glances (F.trace folder.old) (F.trace folder.new) }
     ensures faults { FailsBy is_folder_fault (F.faults folder.old) (F.faults folder.new) result }
 {
     let Some(parent) = parent_of(index, asked) else {

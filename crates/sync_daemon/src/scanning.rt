@@ -1,6 +1,7 @@
 //! What a folder holds, and how that differs from what its index tells.
 ghost use Rattle.std.specs.Prelude.{◌≡◌, IfOk, min};
 ghost use Rattle.std.specs.FinMap as map;
+ghost use Rattle.folder_side.specs.Calls.{Glances};
 ghost use Rattle.ids.specs.FaultCount.{FailsBy};
 ghost use Rattle.sync_rules.specs.Causes.{is_folder_fault};
 ghost use Rattle.tree_push.specs.ChangedOwns.{AreChangedOwns};
@@ -24,6 +25,7 @@ pub(crate) fn scan_folder<F: Folder>(
 ) -> Result<Scan, SyncFault>
     ensures value { ScansSo cuts (F.told folder.old) result }
     ensures stays { F.told folder.new ≡ F.told folder.old }
+    ensures traced { Glances (F.trace folder.old) (F.trace folder.new) }
     ensures faults { FailsBy is_folder_fault (F.faults folder.old) (F.faults folder.new) result }
 {
     match scan(alloc, folder, cuts) {

@@ -3,6 +3,7 @@ ghost use Rattle.std.specs.Prelude.{◌≡◌};
 ghost use Rattle.sync_rules.specs.Causes.{FolderRose};
 ghost use Rattle.sync_daemon.specs.Finishing.{SyncsIndex};
 ghost use Rattle.sync_daemon.specs.Syncing.{SyncedAs};
+ghost use Rattle.sync_daemon.specs.Touching.{TouchesScanned};
 
 use crate::finishing::finish;
 use crate::round::rounds;
@@ -44,6 +45,7 @@ pub fn sync_once<F: Folder, R: Remote, C: Clock>(
     clock: &C,
 ) -> Result<Synced, SyncFault>
     ensures value { SyncedAs secret user.now (C.shows clock.now) (F.told folder.old) (F.told folder.new) index.old index.new (R.sends remote.old) (R.sends remote.new) result }
+    ensures touches { TouchesScanned (F.told folder.old) (F.trace folder.old) (F.trace folder.new) }
     ensures stays { R.peer remote.new ≡ R.peer remote.old }
     ensures faults { FolderRose (F.faults folder.old) (F.faults folder.new) result }
 {
@@ -71,6 +73,7 @@ fn sync_index<F: Folder, R: Remote, C: Clock>(
     clock: &C,
 ) -> Result<Synced, SyncFault>
     ensures value { SyncsIndex secret user.now (C.shows clock.now) (F.told folder.old) (F.told folder.new) index.old index.new (R.sends remote.old) (R.sends remote.new) result }
+    ensures touches { TouchesScanned (F.told folder.old) (F.trace folder.old) (F.trace folder.new) }
     ensures stays { R.peer remote.new ≡ R.peer remote.old }
     ensures faults { FolderRose (F.faults folder.old) (F.faults folder.new) result }
 {

@@ -75,6 +75,8 @@ pub(crate) enum Came {
     NoReply,
     /// Something else came than was asked for.
     Damaged,
+    /// Something was changed meanwhile.
+    Changed,
     /// An update came too late; the last collection has this number.
     Stale(u64),
     Other,
@@ -115,6 +117,7 @@ fn faulted(fault: &SyncFault) -> Came {
         SyncFault::NotEmpty => Came::NotEmpty,
         SyncFault::Blocked(_) => Came::Blocked,
         SyncFault::Damaged { .. } => Came::Damaged,
+        SyncFault::Changed(_) => Came::Changed,
         SyncFault::Stale(now) => Came::Stale(*now),
         SyncFault::Refused(why) => refused(why),
         _ => Came::Other,
@@ -179,7 +182,7 @@ pub(crate) fn sync_there<R: Remote>(alloc: Global, house: &mut House<R>) -> Came
 }
 
 /// The path of a text, which is that of the folder itself where it is no path.
-fn path(alloc: Global, text: &str) -> Result<Path, AllocError> {
+pub(crate) fn path(alloc: Global, text: &str) -> Result<Path, AllocError> {
     match Path::read(alloc, text)? {
         Some(path) => Ok(path),
         None => Ok(Path::root(alloc)),

@@ -14,6 +14,10 @@ mod meddled_syncs;
 #[cfg(test)]
 mod meddling;
 #[cfg(test)]
+mod saved_folder;
+#[cfg(test)]
+mod saved_syncs;
+#[cfg(test)]
 mod two_folders;
 #[cfg(test)]
 mod uneven_folder;

@@ -49,12 +49,22 @@ impl Folder for UnevenFolder {
 
     ghost faults = { λ folder. folder.folder.faults };
 
+    ghost trace = { λ folder. None };
+
     fn list(&mut self, alloc: Global, dir: &Path) -> Result<Listing, FolderFault> {
         self.folder.list(alloc, dir)
     }
 
     fn look(&mut self, path: &Path) -> Result<Option<ItemKind>, FolderFault> {
         self.folder.look(path)
+    }
+
+    fn open_file(&mut self, file: &Path) -> Result<bool, FolderFault> {
+        self.folder.open_file(file)
+    }
+
+    fn is_as_opened(&mut self, file: &Path) -> Result<bool, FolderFault> {
+        self.folder.is_as_opened(file)
     }
 
     fn read(&mut self, file: &Path, place: u64, into: &mut [u8]) -> Result<usize, FolderFault> {
@@ -67,6 +77,10 @@ impl Folder for UnevenFolder {
 
     fn spare_add(&mut self, bytes: &[u8]) -> Result<(), FolderFault> {
         self.folder.spare_add(bytes)
+    }
+
+    fn spare_sync(&mut self) -> Result<(), FolderFault> {
+        self.folder.spare_sync()
     }
 
     fn spare_move(&mut self, file: &Path) -> Result<(), FolderFault> {

@@ -8,6 +8,9 @@ pub mod HindrancesLemmas
 pub mod PlanLooksLemmas
 pub mod PlanningLemmas
 pub mod RemovalLemmas
+pub mod TouchLemmas
+pub mod EarlyLookLemmas
+pub mod LookCallLemmas
 pub mod SecondLookLemmas
 pub mod StepsLemmas
 pub mod UnchangedLemmas

@@ -1,6 +1,7 @@
--- What a look and a reading tell of a path. The key lemmas are looks_none, looks_dir, looks_no_file, looks_file and same_read.
+-- What a look and a reading tell of a path. The key lemmas are looks_none, looks_dir, looks_no_file, looks_file, same_read
+-- and same_kept.
 use Rattle.std.proofs.Common.{◌≡◌, ℕ, true≢false, Bool, true, false, List, Option, None, Some, option_map, refl, sym, ap, subst, ◌∙◌}
-use Rattle.std.specs.Prelude.{◌↔◌, IfOk, IsTrue, Result}
+use Rattle.std.specs.Prelude.{◌↔◌, Err, IfOk, IsTrue, Ok, Result}
 use Rattle.std.specs.Option.{is_none}
 use Rattle.block_chunker.specs.declared.cuts.Cuts.{Cuts}
 use Rattle.folder_side.specs.FileRead.{ReadsFile}
@@ -67,3 +68,12 @@ same_read cuts bytes read file told reads same = (
   λ t. subst (ReadsFile cuts bytes) (same.0 t) reads,
   λ others. same.1 (λ i. record { blocks = (reads.blocks ∙ sym others.blocks) i; size = (reads.size ∙ sym others.size) i }),
 )
+
+-- it was read as the same, and is as it was opened
+pub same_kept : {E : Type 0} (P : Type 0) (told : Bool) (result : Result Bool E) → told ≡ true → IsTrue told ↔ P → IfOk result (λ same. same ≡ true)
+    → IfOk result (λ same. IsTrue same ↔ P)
+same_kept P told (Ok same) is reads kept = (λ _. reads.0 is, λ _. kept)
+same_kept P told (Err e) is reads kept = tt
+
+pub same_other : (P : Type 0) (told : Bool) → told ≡ false → IsTrue told ↔ P → IsTrue false ↔ P
+same_other P told is reads = subst (λ (b : Bool). IsTrue b ↔ P) is reads

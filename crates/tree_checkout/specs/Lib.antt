@@ -4,4 +4,5 @@ pub mod Hindrances
 pub mod Planning
 pub mod SecondLook
 pub mod Steps
+pub mod Touches
 pub mod Writing

@@ -12,6 +12,7 @@ ghost use Rattle.tree_model.specs.Path.{path_cmp};
 ghost use Rattle.tree_checkout.specs.CheckingOut.{ChecksOut, StopsOut};
 ghost use Rattle.tree_checkout.specs.Steps.{LooksUnwritten, paths_of};
 ghost use Rattle.tree_checkout.specs.SecondLook.{LooksFirst};
+ghost use Rattle.tree_checkout.specs.Touches.{Touches};
 ghost use Rattle.tree_checkout.specs.Writing.{is_change};
 
 use crate::block_gets::Source;
@@ -53,6 +54,7 @@ pub fn checkout<F: Folder, R: Remote>(
     ensures found { (c : Contents) → F.told folder.old ≡ Some c → IsDistinct (eq_by_cmp path_cmp) doomed.now → IsDistinct (eq_by_cmp path_cmp) (paths_of writes.now)
         → OnOk result (AllByRecursion (LooksFirst cuts c scan.now) doomed.now
         × AllByRecursion (LooksUnwritten cuts (run (list_map Step.Removed doomed.now) c) scan.now) writes.now) }
+    ensures touches { Touches cuts scan.now (F.trace folder.old) (F.trace folder.new) }
     ensures stays { R.peer remote.new ≡ R.peer remote.old }
     ensures faults { FailsBy is_folder_fault (F.faults folder.old) (F.faults folder.new) result }
 {

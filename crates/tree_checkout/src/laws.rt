@@ -1,7 +1,8 @@
 //! Theorems about checkouts. Each law is a function without a body.
-ghost use Rattle.std.specs.Prelude.{◌≡◌, ℕ, All, List, Option, Some, Ok, Err, true, false, map, ⊤};
+ghost use Rattle.std.specs.Prelude.{◌≡◌, ◌∷◌, ◌++◌, [], ℕ, All, IsTrue, List, Option, Some, Ok, Err, true, false, map, ⊤};
 ghost use Rattle.std.specs.List.{AllByRecursion, Contains};
 ghost use Rattle.block_chunker.specs.declared.cuts.Cuts.{Cuts};
+ghost use Rattle.folder_side.specs.Calls.{Call, is_glance, is_touch};
 ghost use Rattle.folder_side.specs.Folder.{Contents};
 ghost use Rattle.folder_side.specs.declared.scan_report.Scan.{Scan};
 ghost use Rattle.ids.specs.Key.{Objects};
@@ -19,6 +20,7 @@ ghost use Rattle.tree_checkout.specs.BlockGets.{AreGot, Stops, had_of, is_quiet,
 ghost use Rattle.tree_checkout.specs.CheckingOut.{AreFor, AreObjects, AreOf, ChecksOut, IsMisSized, StopsOut, checkout_steps};
 ghost use Rattle.tree_checkout.specs.Planning.{LooksUndone, plan_steps};
 ghost use Rattle.tree_checkout.specs.Steps.{AreSized, IsWrongFile, LooksUnwritten, blocks_due, paths_of};
+ghost use Rattle.tree_checkout.specs.Touches.{LooksBeforeEach};
 ghost use Rattle.tree_checkout.specs.declared.block_gets.Source.{Source};
 ghost use Rattle.tree_checkout.specs.declared.planning.Due.{Due};
 ghost use Rattle.tree_checkout.specs.declared.planning.Plan.{Plan};
@@ -98,4 +100,11 @@ pub fn a_checkout_does_the_steps_of_its_plan()
     ensures listed { (objects : Objects) (dues : List Due) (writes : List Write) → AreFor objects dues writes → map (λ (d : Due). d.path) dues ≡ paths_of writes }
     ensures found { (objects : Objects) (cuts : Cuts) (c : Contents) (scan : Scan) (dues : List Due) (writes : List Write) → AreFor objects dues writes
         → AllByRecursion (LooksUndone cuts c scan) dues → AllByRecursion (LooksUnwritten cuts c scan) writes }
+{}
+
+/// Right before a touch of a path stands a call that changes nothing. So a look is refused behind which the spare is written or synced, or
+/// another path touched, before its own path is.
+pub fn an_early_look_is_refused()
+    ensures { (cuts : Cuts) (scan : Scan) (calls later : List Call) (call touch : Call) → is_touch touch ≡ true
+        → LooksBeforeEach cuts scan [] (calls ++ call ∷ touch ∷ later) → IsTrue (is_glance call) }
 {}

@@ -55,6 +55,7 @@ pub fn plan_of(
 ) -> Result<Plan, SyncFault>
     ensures value { (cuts : Cuts) (c : Contents) → IsScan cuts c scan.now → PlansSo cuts c index.now entries.now pushed result }
     ensures same { (cuts : Cuts) (c : Contents) → IsScan cuts c scan.now → IsWithinLimits c → IfOk result (LooksScanned cuts c scan.now) }
+    ensures gone { IfOk result (λ plan. plan.doomed ≡ reverse (filter_map (doomed_path scan.now entries.now) (fin.entries scan.now.paths))) }
     ensures written { IfOk result (λ plan. plan.writes ≡ flat_map (dues_at scan.now index.now pushed) (fin.entries entries.now)) }
     ensures cause { IfErr result IsPlanFault }
 {
@@ -77,6 +78,7 @@ fn plan_over(
     requires told { TellsOf scan.now hindrances.now }
     ensures value { (cuts : Cuts) (c : Contents) → IsScan cuts c scan.now → PlansSo cuts c index.now entries.now pushed result }
     ensures same { (cuts : Cuts) (c : Contents) → IsScan cuts c scan.now → IsWithinLimits c → IfOk result (LooksScanned cuts c scan.now) }
+    ensures gone { IfOk result (λ plan. plan.doomed ≡ reverse (filter_map (doomed_path scan.now entries.now) (fin.entries scan.now.paths))) }
     ensures written { IfOk result (λ plan. plan.writes ≡ flat_map (dues_at scan.now index.now pushed) (fin.entries entries.now)) }
     ensures cause { IfErr result IsPlanFault }
 {

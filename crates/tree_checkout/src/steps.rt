@@ -6,10 +6,12 @@ ghost use Rattle.std.specs.Ordering.{eq_by_cmp};
 ghost use Rattle.ids.specs.FaultCount.{FailsBy};
 ghost use Rattle.folder_side.specs.Folder.{Changes, Contents, at, with_dir, without};
 ghost use Rattle.folder_side.specs.declared.folder_scan.TheConstants.{PIECE};
+ghost use Rattle.folder_side.specs.declared.scan_report.Scan.{Scan};
 ghost use Rattle.sync_rules.specs.Causes.{is_folder_fault};
 ghost use Rattle.tree_model.specs.Path.{path_cmp};
 ghost use Rattle.tree_checkout.specs.SecondLook.{IsLookFault, LooksAs, LooksFirst, file_seen};
 ghost use Rattle.tree_checkout.specs.Steps.{LooksUnwritten, RemovesAll, RemovesFront, StopsOne, StopsWrites, WritesAll, WritesOne, is_path_fault, paths_of};
+ghost use Rattle.tree_checkout.specs.Touches.{Touches};
 ghost use Rattle.tree_checkout.specs.Writing.{is_change};
 
 use crate::block_gets::Source;
@@ -56,6 +58,7 @@ pub(crate) fn remove_all<F: Folder>(
     ensures same { (c : Contents) → F.told folder.old ≡ Some c → IsDistinct (eq_by_cmp path_cmp) doomed.now
         → AllByRecursion (LooksFirst cuts c scan.now) doomed.now → IfErr result (λ f. is_change f ≡ false) }
     ensures found { (c : Contents) → F.told folder.old ≡ Some c → IsDistinct (eq_by_cmp path_cmp) doomed.now → OnOk result (AllByRecursion (LooksFirst cuts c scan.now) doomed.now) }
+    ensures touches { Touches cuts scan.now (F.trace folder.old) (F.trace folder.new) }
     ensures faults { FailsBy is_folder_fault (F.faults folder.old) (F.faults folder.new) result }
 {
     for path in doomed {
@@ -82,6 +85,7 @@ fn remove_one<F: Folder>(
     ensures cause { IfErr result (IsLookFault cuts (F.told folder.old) path.now (fin.get scan.now.paths path.now)) }
     ensures untouched { IfErr result (λ f. is_change f ≡ true → F.told folder.new ≡ F.told folder.old) }
     ensures found { (c : Contents) → F.told folder.old ≡ Some c → OnOk result (LooksFirst cuts c scan.now path.now) }
+    ensures touches { Touches cuts scan.now (F.trace folder.old) (F.trace folder.new) }
     ensures faults { FailsBy is_folder_fault (F.faults folder.old) (F.faults folder.new) result }
 {
     match look_again(alloc, folder, path, scan.paths.get(path), cuts, buffer) {
@@ -114,6 +118,7 @@ pub(crate) fn write_all<F: Folder, R: Remote>(
         → AllByRecursion (LooksUnwritten cuts c scan.now) writes.now → IfErr result (λ f. is_change f ≡ false) }
     ensures found { (c : Contents) → F.told folder.old ≡ Some c → IsDistinct (eq_by_cmp path_cmp) (paths_of writes.now)
         → OnOk result (AllByRecursion (LooksUnwritten cuts c scan.now) writes.now) }
+    ensures touches { Touches cuts scan.now (F.trace folder.old) (F.trace folder.new) }
     ensures stays { R.peer remote.new ≡ R.peer remote.old }
     ensures faults { FailsBy is_folder_fault (F.faults folder.old) (F.faults folder.new) result }
 {
@@ -147,6 +152,7 @@ fn write_one<F: Folder, R: Remote>(
     ensures err { IfErr result (StopsOne source.now write.now.path write.now.node scan.now cuts
         (R.sends remote.old) (R.sends remote.new) (F.told folder.old) (F.told folder.new)) }
     ensures found { (c : Contents) → F.told folder.old ≡ Some c → OnOk result (LooksUnwritten cuts c scan.now write.now) }
+    ensures touches { Touches cuts scan.now (F.trace folder.old) (F.trace folder.new) }
     ensures stays { R.peer remote.new ≡ R.peer remote.old }
     ensures faults { FailsBy is_folder_fault (F.faults folder.old) (F.faults folder.new) result }
 {
@@ -181,6 +187,7 @@ fn make_dir<F: Folder>(
     ensures cause { IfErr result (IsLookFault cuts (F.told folder.old) path.now None) }
     ensures untouched { IfErr result (λ f. is_change f ≡ true → F.told folder.new ≡ F.told folder.old) }
     ensures found { (c : Contents) → F.told folder.old ≡ Some c → OnOk result (LooksAs cuts (at c path.now) None) }
+    ensures touches { (scan : Scan) → Touches cuts scan (F.trace folder.old) (F.trace folder.new) }
     ensures faults { FailsBy is_folder_fault (F.faults folder.old) (F.faults folder.new) result }
 {
     match look_again(alloc, folder, path, None, cuts, buffer) {

@@ -1,15 +1,18 @@
 //! A file of a tree, got block by block into the spare and moved to its path.
 ghost use Rattle.std.specs.Prelude.{◌≡◌, ◌==◌, ◌&&◌, ◌<◌, ◌≤◌, ◌++◌, ◌∷◌, [], IfErr, IfOk, OnOk, Some, false, length, map as list_map, option_copied};
+ghost use Rattle.std.specs.FinMap as fin;
 ghost use Rattle.block_chunker.specs.ChunkBoundaries.{last_chunk};
 ghost use Rattle.folder_side.specs.Folder.{Contents, at};
 ghost use Rattle.ids.specs.FaultCount.{FailsBy};
 ghost use Rattle.folder_side.specs.declared.folder_scan.TheConstants.{PIECE};
+ghost use Rattle.folder_side.specs.declared.scan_report.Scan.{Scan};
 ghost use Rattle.local_index.specs.OwnIds.{own_id};
 ghost use Rattle.sha1.specs.Sha1.{sha1};
 ghost use Rattle.sync_rules.specs.Causes.{is_folder_fault};
 ghost use Rattle.sync_rules.specs.declared.fault.SyncFault.TheVariants as fault;
 ghost use Rattle.tree_walk.specs.declared.fault.WalkFault.TheVariants as walk;
-ghost use Rattle.tree_checkout.specs.SecondLook.{LooksAs};
+ghost use Rattle.tree_checkout.specs.SecondLook.{LooksAs, file_seen};
+ghost use Rattle.tree_checkout.specs.Touches.{Touches, TouchesNone};
 ghost use Rattle.tree_checkout.specs.Writing.{AddsOne, FailsToAdd, Fills, IsOneChunk, StopsFilling, StopsWriting, Writes};
 
 use crate::block_gets::{Source, get_block};
@@ -33,7 +36,7 @@ pub struct TreeFile {
     pub object: FileObject,
 }
 
-/// Gets a file into the spare, looks at its path again, and moves it there. At most one block of it is in memory.
+/// Gets a file into the spare, durably, looks at its path again, and moves it there. At most one block of it is in memory.
 ///
 /// `first` is what is to be there, and `buffer` is what a file there is read with. The id that these cuts give to its bytes is
 /// noted in `owns`.
@@ -55,12 +58,17 @@ pub(crate) fn write_file<F: Folder, R: Remote>(
     ensures err { IfErr result (StopsWriting source.now file.now path.now cuts (option_copied first.entry)
         (R.sends remote.old) (R.sends remote.new) (F.told folder.old) (F.told folder.new)) }
     ensures found { (c : Contents) → F.told folder.old ≡ Some c → OnOk result (LooksAs cuts (at c path.now) (option_copied first.entry)) }
+    ensures touches { (scan : Scan) → option_copied first.entry ≡ file_seen (fin.get scan.paths path.now) → Touches cuts scan (F.trace folder.old) (F.trace folder.new) }
     ensures stays { R.peer remote.new ≡ R.peer remote.old }
     ensures faults { FailsBy is_folder_fault (F.faults folder.old) (F.faults folder.new) result }
 {
     match fill_spare(alloc, folder, remote, source, file, cuts, owns) {
         Ok(()) => {}
         Err(fault) => return Err(fault),
+    }
+    match folder.spare_sync() {
+        Ok(()) => {}
+        Err(fault) => return Err(folder_fault(fault)),
     }
     match look_again(alloc, folder, path, first, cuts, buffer) {
         Ok(()) => {}
@@ -88,6 +96,7 @@ fn fill_spare<F: Folder, R: Remote>(
     ensures ok { OnOk result (Fills source.now file.now cuts (R.sends remote.old) (R.sends remote.new) (F.told folder.old) (F.spare folder.new) owns.old owns.new) }
     ensures err { IfErr result (StopsFilling source.now file.now (R.sends remote.old) (R.sends remote.new)) }
     ensures untouched { F.told folder.new ≡ F.told folder.old }
+    ensures traced { TouchesNone (F.trace folder.old) (F.trace folder.new) }
     ensures stays { R.peer remote.new ≡ R.peer remote.old }
     ensures faults { FailsBy is_folder_fault (F.faults folder.old) (F.faults folder.new) result }
 {
@@ -185,6 +194,7 @@ fn add_block<F: Folder, R: Remote>(
         chunker.old chunker.new names.old names.new) }
     ensures err { IfErr result (FailsToAdd source.now file.now block.now left (R.sends remote.old) (R.sends remote.new)) }
     ensures untouched { F.told folder.new ≡ F.told folder.old }
+    ensures traced { TouchesNone (F.trace folder.old) (F.trace folder.new) }
     ensures stays { R.peer remote.new ≡ R.peer remote.old }
     ensures faults { FailsBy is_folder_fault (F.faults folder.old) (F.faults folder.new) result }
 {

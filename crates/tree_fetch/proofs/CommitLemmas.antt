@@ -2,9 +2,9 @@
 use Rattle.std.proofs.Common.{All, ◌≡◌, ℕ, Bool, true, false, if◌then◌else◌, is_ok, List, [], ◌∷◌, ◌++◌, refl, sym, ap, subst, ◌∙◌, None, Some, Result, Ok, Err, inl, inr}
 use Rattle.std.specs.Cmp.Lexicographic.{bytes_decides}
 use Rattle.std.specs.FinMap as map
-use Rattle.std.specs.List.{cons_option, filter_map}
+use Rattle.std.specs.List.{Contains, cons_option, filter_map}
 use Rattle.std.specs.Prelude.{IfErr}
-use Rattle.std.proofs.lemmas.List.Elements.{All-cons, All-nil}
+use Rattle.std.proofs.lemmas.List.Elements.{All-cons, All-nil, Contains-push}
 use Rattle.ids.specs.Key.{Objects}
 use Rattle.ids.specs.declared.key.Key.{Key}
 use Rattle.commit_objects.specs.Commit.{commit_of}
@@ -27,7 +27,7 @@ use Rattle.sync_rules.specs.declared.fault.SyncFault.TheVariants as fault
 use Rattle.tree_fetch.specs.Asking.{FailsSo, ReadsCommit, order_of}
 use Rattle.tree_fetch.specs.Fetching.{CommitFails, FetchesCommit, Fetching, IsReached, Stopped}
 use Rattle.tree_fetch.specs.declared.asker.Asker.{Asker}
-use Rattle.tree_fetch.proofs.RowLemmas.{get_put, keeps_insert}
+use Rattle.tree_fetch.proofs.RowLemmas.{get_put, insert_comes, keeps_insert}
 use Rattle.tree_fetch.proofs.SendLemmas.{all_of_one, begins, failed_stops, is_fetch, kept_got, one_more, one_object, stops}
 
 -- what is had for an object that was got
@@ -82,7 +82,12 @@ module _ (asker : Asker) (old new : List Sent) (id : List ℕ) where
       one_more asker (key ∷ []) old old new map.empty (map.insert map.empty key bytes) sent (had_one key bytes) f is
       (is_fetch asker (what.Get key) (Ok (Plain (reply.Got bytes) tag)) refl tt refl) (reached f.more)
       (refl, All-cons IsNamedSo (key, Some bytes) [] named (All-nil IsNamedSo)) (one_had key bytes)
-      (λ objects has keeps. keeps_insert map.empty objects key bytes keeps (has_one objects key bytes named has)) in
+      (λ objects has keeps. keeps_insert map.empty objects key bytes keeps (has_one objects key bytes named has))
+      (λ at given here.
+      elim (insert_comes map.empty key bytes at given here) [
+        | inl before ↦ inl before
+        | inr same ↦ inr (subst (Contains ((key, Some bytes) ∷ [])) same (Contains-push [] (key, Some bytes)))
+      ]) in
       record {
         more = got.more;
         had = got.had;

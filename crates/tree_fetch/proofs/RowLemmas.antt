@@ -7,7 +7,7 @@ use Rattle.std.specs.List.{Contains, cons_option, filter_map, flat_map}
 use Rattle.std.specs.Ordering.{eq_by_cmp}
 use Rattle.std.proofs.lemmas.Grind.{flat_map-append}
 use Rattle.std.proofs.lemmas.List.{append-nil, get_or-map, length-map, nil_from_length}
-use Rattle.std.proofs.lemmas.List.Elements.{All-cons, All-nil, Contains-append_right}
+use Rattle.std.proofs.lemmas.List.Elements.{All-cons, All-nil, Contains-append_left, Contains-append_right, Contains-push}
 use Rattle.std.proofs.lemmas.Slice.Eq.{bytes_eq-Decides}
 use Rattle.sha1.specs.Sha1.{sha1}
 use Rattle.ids.specs.Key.{Objects, key_cmp}
@@ -25,7 +25,7 @@ use Rattle.http_front.specs.declared.outcome.Outcome.TheVariants.{Packed}
 use Rattle.http_front.specs.declared.row.Row.{Row}
 use Rattle.http_client.specs.OrderOutcome.{row_id}
 use Rattle.remote_calls.specs.Sends.{Sent}
-use Rattle.sync_rules.specs.Named.{HasAll, IsHadFor, IsNamedSo, got_in, has_name, if_named, row_named}
+use Rattle.sync_rules.specs.Named.{HasAll, IsHadFor, IsNamedSo, Named, got_in, has_name, if_named, row_named}
 use Rattle.sync_rules.specs.declared.fault.SyncFault.{SyncFault}
 use Rattle.sync_rules.specs.declared.fault.SyncFault.TheVariants as fault
 use Rattle.tree_fetch.specs.Asking.{order_of}
@@ -100,6 +100,15 @@ keeps_insert F O key bytes keeps there = record { kept = λ at given here. by at
     by at given true tied is = ap (map.get O) (tied_key at key tied) ∙ there ∙ is
     by at given false apart is = keeps.kept at given is
 
+-- what is kept more is the one
+pub insert_comes : (F : Objects) (key : Key) (bytes : List ℕ) (at : Key) (given : List ℕ) → map.get (map.insert F key bytes) at ≡ Some given
+    → (map.get F at ≡ Some given) ⊎ (◌≡◌ {A = Named} (key, Some bytes) (at, Some given))
+insert_comes F key bytes at given here = by (eq_by_cmp key_cmp at key) refl (sym (map.get-insert key_cmp_total F key bytes at) ∙ here)
+  where
+    by : (b : Bool) → eq_by_cmp key_cmp at key ≡ b → cond b (Some bytes) (map.get F at) ≡ Some given → (map.get F at ≡ Some given) ⊎ (◌≡◌ {A = Named} (key, Some bytes) (at, Some given))
+    by true tied is = inr (λ i. (sym (tied_key at key tied) i, is i))
+    by false apart is = inl is
+
 -- ---- rows
 
 named_true : (row : Row) → sha1 row.bytes ≡ row.id → has_name (fs_key row.id) row.bytes ≡ true
@@ -133,6 +142,20 @@ rows_kept (row ∷ rows) F G O puts has keeps =
     subst (λ (b : Bool). HasAll O (if b then (fs_key row.id, row.bytes) ∷ had_rows rows else had_rows rows)) (named_true row puts.0) has in
     rows_kept rows (map.insert F (fs_key row.id) row.bytes) G O puts.2 all.1 (keeps_insert F O (fs_key row.id) row.bytes keeps all.0)
 
+-- what is kept of rows came in them
+rows_come : (rows : List Row) (F G : Objects) → PutsAll rows F G → (key : Key) (bytes : List ℕ) → map.get G key ≡ Some bytes
+    → (map.get F key ≡ Some bytes) ⊎ Contains (list_map row_named rows) (key, Some bytes)
+rows_come [] F G puts key bytes here = inl (ap (λ (x : Objects). map.get x key) (sym puts) ∙ here)
+rows_come (row ∷ rows) F G puts key bytes here =
+    elim (rows_come rows (map.insert F (fs_key row.id) row.bytes) G puts.2 key bytes here) [
+      | inl there ↦ elim (insert_comes F (fs_key row.id) row.bytes key bytes there) [
+        | inl before ↦ inl before
+        | inr same ↦ inr (subst (Contains (row_named row ∷ list_map row_named rows)) same
+            (Contains-append_left (row_named row ∷ []) (list_map row_named rows) (row_named row) (Contains-push [] (row_named row))))
+      ]
+      | inr later ↦ inr (Contains-append_right (row_named row ∷ []) (list_map row_named rows) (key, Some bytes) later)
+    ]
+
 rows_grow : (rows : List Row) (F G : Objects) → PutsAll rows F G → Grows (list_map row_id rows) F G
 rows_grow [] F G puts = subst (Grows [] F) (sym puts) (grows_none F)
 rows_grow (row ∷ rows) F G puts =
@@ -157,7 +180,8 @@ pub rows_got : (asker : Asker) (from : List Key) (before old new : List Sent) (i
     → (result : Result ⊤ SyncFault) → KeepsRows rows F G result → FetchesList asker from before new ids F G result
 rows_got asker from before old new ids rows F G some few f reached grown same (Ok done) puts = (
   one_more asker from before old new F G (order_of asker (what.GetFs ids), Ok (Packed rows)) (had_rows rows) f grown (is_fetch asker (what.GetFs ids) (Ok (Packed rows)) (fetches_some ids some) few refl)
-      (reached_all asker from before old F f ids reached) (refl, rows_named rows F G puts) (rows_had rows) (λ objects has keeps. rows_kept rows F G objects puts has keeps),
+      (reached_all asker from before old F f ids reached) (refl, rows_named rows F G puts) (rows_had rows) (λ objects has keeps. rows_kept rows F G objects puts has keeps)
+      (rows_come rows F G puts),
   subst (λ list. Grows list F G) same (rows_grow rows F G puts),
 )
 rows_got asker from before old new ids rows F G some few f reached grown same (Err (fault.Damaged want got)) (row, there, w, g, other) =

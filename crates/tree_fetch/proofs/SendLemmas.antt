@@ -1,13 +1,13 @@
 -- What the list of sends tells as it grows. The key lemmas are begins, kept_got, one_more, stops, stops_here,
 -- failed_stops, failed_halts and halved.
-use Rattle.std.proofs.Common.{◌||◌, ◌==◌, zero, suc, not, ◌≡◌, ◌<◌, ◌≤◌, ℕ, Bool, true, false, List, [], ◌∷◌, ◌++◌, length, refl, sym, ap, subst, ◌∙◌, append_assoc, None, Ok, Err, inl, inr, All, true≢false, arith, nat_lt}
+use Rattle.std.proofs.Common.{◌||◌, ◌==◌, zero, suc, not, ◌≡◌, ◌<◌, ◌≤◌, ℕ, Bool, true, false, List, [], ◌∷◌, ◌++◌, length, refl, sym, ap, subst, ◌∙◌, ◌⊎◌, append_assoc, None, Some, Ok, Err, inl, inr, All, true≢false, arith, nat_lt}
 use Rattle.std.specs.FinMap as map
 use Rattle.std.specs.Prelude.{⊤, map as list_map}
-use Rattle.std.specs.List.{filter_map, flat_map}
+use Rattle.std.specs.List.{Contains, filter_map, flat_map}
 use Rattle.std.proofs.lemmas.Bool.Decides.{Decides-ltb}
 use Rattle.std.proofs.lemmas.Grind.{flat_map-append}
 use Rattle.std.proofs.lemmas.List.{append-nil}
-use Rattle.std.proofs.lemmas.List.Elements.{All-append, All-cons, All-head, All-nil, All-tail}
+use Rattle.std.proofs.lemmas.List.Elements.{All-append, All-cons, All-head, All-nil, All-tail, Contains-append_left, Contains-append_right}
 use Rattle.ids.specs.Key.{Objects, key_cmp}
 use Rattle.ids.specs.declared.key.Key.{Key}
 use Rattle.library_state.specs.declared.refusal.Refusal.{Refusal}
@@ -25,13 +25,13 @@ use Rattle.remote_calls.specs.declared.error.RemoteFault.{RemoteFault}
 use Rattle.sync_rules.proofs.GotLemmas.{got_has}
 use Rattle.sync_rules.proofs.OverLemmas.{has_first, has_later}
 use Rattle.sync_rules.proofs.WentLemmas.{goes_well, went_then}
-use Rattle.sync_rules.specs.Named.{GetsNamed, HasAll, HasGot, IsHadFor, IsNamedSo, Named, Sends, asked_by, got_by, if_named, is_get, named_by, names_in}
+use Rattle.sync_rules.specs.Named.{GetsNamed, HasAll, HasGot, IsHadFor, IsNamedSo, Named, Sends, asked_by, got_by, got_in, if_named, is_get, named_by, names_in}
 use Rattle.sync_rules.specs.Orders.{AsksFew, is_sync_what}
 use Rattle.sync_rules.specs.Causes.{CausedBy, IsRefusedBy, WentWell, ends_sync, goes_on, is_of_order, is_stale, is_too_long}
 use Rattle.sync_rules.specs.declared.fault.SyncFault.{SyncFault}
 use Rattle.sync_rules.specs.declared.fault.SyncFault.TheVariants as fault
 use Rattle.tree_fetch.specs.Asking.{FailsSo, GetsRows, IsOfOne, IsRefused, order_of, refused_of}
-use Rattle.tree_fetch.specs.Fetching.{AsksOne, Fetching, GetsReached, IsAlone, IsFetch, IsReached, Stopped, fetches}
+use Rattle.tree_fetch.specs.Fetching.{AreCome, AsksOne, Fetching, GetsReached, IsAlone, IsFetch, IsReached, Stopped, fetches}
 use Rattle.tree_fetch.specs.Levels.{AreReached, Halts}
 use Rattle.tree_fetch.specs.declared.asker.Asker.{Asker}
 
@@ -71,6 +71,7 @@ begins asker from before = record {
   reached = tt;
   went = All-nil WentWell;
   kept = λ objects has. record { kept = λ key bytes here. let none : map.get (map.empty {X = List ℕ} {R = key_cmp}) key ≡ None = map.get-empty key_cmp key in cc };
+  came = λ key bytes here. absurd (let none : map.get (map.empty {X = List ℕ} {R = key_cmp}) key ≡ None = map.get-empty key_cmp key in cc);
 }
 
 gets : (w : What) → fetches w ≡ true → is_get w ≡ true
@@ -107,10 +108,22 @@ reached_all asker from before now F f (id ∷ ids) reached =
     (λ objects has. reached.each id (inl refl) objects (f.kept objects (kept_got asker from before now F f objects has)))
     (reached_all asker from before now F f ids (record { each = λ other among. reached.each other (inr among) }))
 
+-- what is held more came with one send
+abbrev pub ComesBy : (F G : Objects) → Sent → Type 0
+ComesBy F G sent = (key : Key) (bytes : List ℕ) → map.get G key ≡ Some bytes → (map.get F key ≡ Some bytes) ⊎ Contains (got_in sent) (key, Some bytes)
+
+comes_then : (F G : Objects) (more : List Sent) (sent : Sent) → AreCome F more → ComesBy F G sent → AreCome G (more ++ sent ∷ [])
+comes_then F G more sent came comes key bytes here =
+    subst (λ (all : List Named). Contains all (key, Some bytes)) (sym (flat_map-append got_in more (sent ∷ [])))
+    (elim (comes key bytes here) [
+      | inl there ↦ Contains-append_left (flat_map got_in more) (got_in sent ++ []) (key, Some bytes) (came key bytes there)
+      | inr new ↦ Contains-append_right (flat_map got_in more) (got_in sent ++ []) (key, Some bytes) (Contains-append_left (got_in sent) [] (key, Some bytes) new)
+    ])
+
 pub one_more : (asker : Asker) (from : List Key) (before old new : List Sent) (F G : Objects) (sent : Sent) (now : List (Key × List ℕ)) (f : Fetching asker from before old F)
     → new ≡ old ++ sent ∷ [] → IsFetch asker sent → All (IsReached from f.more) (asked_by sent.0.what) → WentWell sent → IsHadFor (names_in sent) now
-    → ((objects : Objects) → HasAll objects now → Keeps F objects → Keeps G objects) → Fetching asker from before new G
-one_more asker from before old new F G sent now f is asks reached went here keeps = record {
+    → ((objects : Objects) → HasAll objects now → Keeps F objects → Keeps G objects) → ComesBy F G sent → Fetching asker from before new G
+one_more asker from before old new F G sent now f is asks reached went here keeps comes = record {
   more = f.more ++ sent ∷ [];
   had = f.had ++ now;
   sends = sends_one before old new f.more f.had sent now f.sends is here;
@@ -118,6 +131,7 @@ one_more asker from before old new F G sent now f is asks reached went here keep
   reached = reached_pushed from [] f.more sent f.reached reached;
   went = all_pushed WentWell f.more sent f.went went;
   kept = λ objects has. keeps objects (has_later objects f.had now has) (f.kept objects (has_first objects f.had now has));
+  came = comes_then F G f.more sent f.came comes;
 }
 
 pub stops : (asker : Asker) (from : List Key) (before old new : List Sent) (F : Objects) (sent : Sent) (now : List (Key × List ℕ)) (f : Fetching asker from before old F)
@@ -269,7 +283,7 @@ halved asker from before old new F ids few more f reached (outcome, grown, refus
     let w : What = what.GetFs ids in
     one_more asker from before old new F F (order_of asker w, Ok outcome) [] f grown (is_fetch asker w (Ok outcome) (fetches_many ids more) few (timely_refusal w (fetches_many ids more) outcome refusal.NoMemory refused can)) (reached_all asker from before old F f ids reached)
     (went_halved ids more outcome refused, none_named asker w (Ok outcome) (refusal_gives w outcome refusal.NoMemory refused))
-    (no_names asker w (Ok outcome) (fetches_many ids more) (refusal_gives w outcome refusal.NoMemory refused)) (λ objects has keeps. keeps)
+    (no_names asker w (Ok outcome) (fetches_many ids more) (refusal_gives w outcome refusal.NoMemory refused)) (λ objects has keeps. keeps) (λ key bytes here. inl here)
 
 -- a list of one
 pub one_of : (ids : List (List ℕ)) (why : SyncFault) → IsOfOne ids why → IsOne (what.GetFs ids) why

@@ -43,6 +43,7 @@ module _ (asker : Asker) (before now : List Sent) (root : List ℕ) where
       went = f.went;
       held = is.0;
       own = is.1;
+      came = f.came;
       whole = λ objects has. ap (λ (w : Walk). w.fault) (same_walk held objects (keeps objects has) root covered) ∙ is.0;
       entries = λ objects has path. is.1 path ∙ sym (same_entries held objects (keeps objects has) root is.0 path);
       kept = keeps;

@@ -1,6 +1,8 @@
 -- What a fetch answers and leaves on the list of sends. Our own. Read IsFetch, GetsReached and Fetching first, then Stopped, then
 -- FetchesCommit and FetchesTree.
 use Rattle.std.specs.Prelude.{ℕ, ◌≡◌, ◌⊎◌, Bool, true, false, All, List, [], ◌∷◌, ◌++◌, length, None, Some, Result, Ok, Err, ⊤}
+use Rattle.std.specs.FinMap as fin
+use Rattle.std.specs.List.{Contains, flat_map}
 use Rattle.ids.specs.Key.{Objects}
 use Rattle.ids.specs.declared.key.Key.{Key}
 use Rattle.commit_objects.specs.declared.commit.Commit.{Commit}
@@ -19,7 +21,7 @@ use Rattle.http_client.specs.OrderOutcome.{is_commit}
 use Rattle.tree_walk.specs.declared.fault.WalkFault.{WalkFault}
 use Rattle.tree_walk.specs.declared.fault.WalkFault.TheVariants as walk
 use Rattle.remote_calls.specs.Sends.{Ending, Sent}
-use Rattle.sync_rules.specs.Named.{HasAll, HasGot, Sends, asked_by}
+use Rattle.sync_rules.specs.Named.{HasAll, HasGot, Sends, asked_by, got_in}
 use Rattle.sync_rules.specs.Orders.{IsSyncOrder}
 use Rattle.sync_rules.specs.Causes.{CausedBy, GoesWell, IsLast, IsWrongTree, WentWell, is_of_order, is_stale}
 use Rattle.sync_rules.specs.declared.fault.SyncFault.{SyncFault}
@@ -59,6 +61,10 @@ GetsReached from before (sent ∷ more) = All (IsReached from before) (asked_by 
 
 -- ---- success
 
+-- each object that is held came with these bytes, whatever else came
+abbrev pub AreCome : (held : Objects) → List Sent → Type 0
+AreCome held more = (key : Key) (bytes : List ℕ) → fin.get held key ≡ Some bytes → Contains (flat_map got_in more) (key, Some bytes)
+
 -- what was fetched since `before` for these keys: each send is one of a fetch, asks for what is reached and went well, and what is held
 -- was had
 pub record Fetching (asker : Asker) (from : List Key) (before now : List Sent) (held : Objects) : Type 0 where
@@ -69,6 +75,7 @@ pub record Fetching (asker : Asker) (from : List Key) (before now : List Sent) (
   pub reached : GetsReached from [] more
   pub went : All WentWell more
   pub kept : (objects : Objects) → HasAll objects had → Keeps held objects
+  pub came : AreCome held more
 
 -- ---- refusals
 
@@ -119,8 +126,8 @@ FetchesCommit asker before now id (Err f) = Stopped asker (commit_key id ∷ [])
 
 -- ---- a tree
 
--- nothing is wrong with the tree that the root has among the objects that are held, and these are its entries; so it is over any objects
--- that have what was got, what is held among them
+-- nothing is wrong with the tree that the root has among the objects that are held, each of which came, and these are its entries; so it is
+-- over any objects that have what was got, what is held among them
 pub record IsFetchedTree (asker : Asker) (before now : List Sent) (root : List ℕ) (tree : FetchedTree) : Type 0 where
   pub more : List Sent
   pub had : List (Key × List ℕ)
@@ -130,6 +137,7 @@ pub record IsFetchedTree (asker : Asker) (before now : List Sent) (root : List �
   pub went : All WentWell more
   pub held : (walk_root false tree.objects root start).fault ≡ None
   pub own : AreEntriesOf tree.objects root tree.entries
+  pub came : AreCome tree.objects more
   pub whole : (objects : Objects) → HasGot objects more → (walk_root false objects root start).fault ≡ None
   pub entries : (objects : Objects) → HasGot objects more → AreEntriesOf objects root tree.entries
   pub kept : (objects : Objects) → HasGot objects more → Keeps tree.objects objects

@@ -31,7 +31,7 @@ use Rattle.sync_rules.specs.Causes.{is_folder_fault}
 use Rattle.sync_rules.specs.Named.{keys_put}
 use Rattle.sync_rules.specs.declared.fault.SyncFault.{SyncFault}
 use Rattle.sync_rules.specs.declared.fault.SyncFault.TheVariants as fault
-use Rattle.tree_push.specs.Asking.{IsOrderFault, Ran, Stopped, Went, is_own}
+use Rattle.tree_push.specs.Asking.{IsOrderFault, Ran, Stopped, Went, is_own, PutsAmong}
 use Rattle.tree_push.specs.BlockUpload.{IsChange, IsFileFault, IsNoChange, IsPutFault, IsPutting, IsReadFault, PutsOff}
 use Rattle.tree_push.specs.Lacking.{Keys, has_key}
 use Rattle.tree_push.specs.Puts.{PutsKeys}
@@ -92,7 +92,7 @@ off_join library xs ys old mid new first later one two = record {
     neither false x y = refl
 
 module _ (old new : Keys) (id : List ℕ) (is : new ≡ fin.remove old (block_key id)) where
-  removed : (q : Key) → has_key new q ≡ cond (same_key q (block_key id)) false (has_key old q)
+  pub removed : (q : Key) → has_key new q ≡ cond (same_key q (block_key id)) false (has_key old q)
   removed q = ap (λ (m : Keys). has_key m q) is ∙ ap is_some (fin.get-remove key_cmp_total old (block_key id) q) ∙ by (same_key q (block_key id)) (fin.get old q)
     where
       by : (b : Bool) (o : Option ⊤) → is_some (cond b None o) ≡ cond b false (is_some o)
@@ -140,23 +140,23 @@ one_noted old id there q is = by (same_key q (block_key id)) refl is
 pub record IsTaking (library : Library) (names left : List (List ℕ)) (was is : Keys) (old now : List Sent) : Type 0 where
   pub done : List (List ℕ)
   pub split : names ≡ done ++ left
-  pub ran : Ran library (has_key was) (PutsOff done was is) old now
+  pub ran : Ran library (PutsAmong (has_key was)) (PutsOff done was is) old now
 
 module _ (library : Library) where
   pub taking_start : (names : List (List ℕ)) (was : Keys) (old : List Sent) → IsTaking library names names was was old old
-  taking_start names was old = record { done = []; split = refl; ran = ran_none library (has_key was) (PutsOff [] was was) old old refl (off_none was) }
+  taking_start names was old = record { done = []; split = refl; ran = ran_none library (PutsAmong (has_key was)) (PutsOff [] was was) old old refl (off_none was) }
 
   module _ (names left : List (List ℕ)) (was is : Keys) (old now : List Sent) (taking : IsTaking library names left was is old now) where
     wider : (key : Key) → has_key is key ≡ true → has_key was key ≡ true
     wider key there = off_wide taking.done was is taking.ran.more taking.ran.are key there
 
-    pub taking_went : {T : Type 0} (first : List (List ℕ)) (then : Keys) (new : List Sent) (result : Result T SyncFault) → Went library (has_key is) (PutsOff first is then) now new result
-        → Went library (has_key was) (PutsOff (taking.done ++ first) was then) old new result
+    pub taking_went : {T : Type 0} (first : List (List ℕ)) (then : Keys) (new : List Sent) (result : Result T SyncFault) → Went library (PutsAmong (has_key is)) (PutsOff first is then) now new result
+        → Went library (PutsAmong (has_key was)) (PutsOff (taking.done ++ first) was then) old new result
     taking_went first then new result went =
-        went_more library (has_key was) (PutsOff taking.done was is) (PutsOff first is then) (PutsOff (taking.done ++ first) was then) (off_join library taking.done first was is then) old now new result
+        went_more library (PutsAmong (has_key was)) (PutsOff taking.done was is) (PutsOff first is then) (PutsOff (taking.done ++ first) was then) (off_join library taking.done first was is then) old now new result
         taking.ran (went_wide library (has_key is) (has_key was) wider (PutsOff first is then) now new result went)
 
-    pub taking_more : (first rest : List (List ℕ)) (then : Keys) (new : List Sent) → left ≡ first ++ rest → Ran library (has_key is) (PutsOff first is then) now new
+    pub taking_more : (first rest : List (List ℕ)) (then : Keys) (new : List Sent) → left ≡ first ++ rest → Ran library (PutsAmong (has_key is)) (PutsOff first is then) now new
         → IsTaking library names rest was then old new
     taking_more first rest then new cut ran = record {
       done = taking.done ++ first;
@@ -164,18 +164,18 @@ module _ (library : Library) where
       ran = taking_went {T = ⊤} first then new (Ok tt) ran;
     }
 
-    pub taking_stop : (new : List Sent) (f : SyncFault) → Stopped library (has_key is) f now new → Stopped library (has_key was) f old new
+    pub taking_stop : (new : List Sent) (f : SyncFault) → Stopped library (PutsAmong (has_key is)) f now new → Stopped library (PutsAmong (has_key was)) f old new
     taking_stop new f stopped = taking_went {T = ⊤} [] is new (Err f) stopped
 
     -- all that is left is taken at once
-    pub taking_last : {T : Type 0} (then : Keys) (new : List Sent) (result : Result T SyncFault) → Went library (has_key is) (PutsOff left is then) now new result
-        → Went library (has_key was) (PutsOff names was then) old new result
+    pub taking_last : {T : Type 0} (then : Keys) (new : List Sent) (result : Result T SyncFault) → Went library (PutsAmong (has_key is)) (PutsOff left is then) now new result
+        → Went library (PutsAmong (has_key was)) (PutsOff names was then) old new result
     taking_last then new result went =
-        subst (λ (l : List (List ℕ)). Went library (has_key was) (PutsOff l was then) old new result) (sym taking.split) (taking_went left then new result went)
+        subst (λ (l : List (List ℕ)). Went library (PutsAmong (has_key was)) (PutsOff l was then) old new result) (sym taking.split) (taking_went left then new result went)
 
-    pub taking_end : left ≡ [] → Ran library (has_key was) (PutsOff names was is) old now
+    pub taking_end : left ≡ [] → Ran library (PutsAmong (has_key was)) (PutsOff names was is) old now
     taking_end none =
-        subst (λ (l : List (List ℕ)). Ran library (has_key was) (PutsOff l was is) old now) (sym (taking.split ∙ ap (λ (l : List (List ℕ)). taking.done ++ l) none ∙ append-nil taking.done))
+        subst (λ (l : List (List ℕ)). Ran library (PutsAmong (has_key was)) (PutsOff l was is) old now) (sym (taking.split ∙ ap (λ (l : List (List ℕ)). taking.done ++ l) none ∙ append-nil taking.done))
         taking.ran
 
 -- ---- faults

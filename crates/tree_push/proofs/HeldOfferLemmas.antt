@@ -31,7 +31,7 @@ use Rattle.tree_push.proofs.NamedKeyLemmas.{asked_keys, in_keys, named_append}
 use Rattle.tree_push.proofs.OfferLemmas.{commit_read}
 use Rattle.tree_push.proofs.StoodLemmas.{put_of, update_of}
 
-named_then : (first later : List Sent) (key : Key) → is_in (keys_named first) key ≡ true → is_in (keys_named (first ++ later)) key ≡ true
+pub named_then : (first later : List Sent) (key : Key) → is_in (keys_named first) key ≡ true → is_in (keys_named (first ++ later)) key ≡ true
 named_then first later key there =
     ap (λ (keys : List Key). is_in keys key) (named_append first later) ∙ (within_front (keys_named first) (keys_named later)).there key there
 

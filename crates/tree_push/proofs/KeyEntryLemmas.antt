@@ -45,6 +45,9 @@ module _ {V : Type 0} where
     pub there : IsSome (fin.get table key)
     pub is : key.id ≡ id
 
+  pub entry_there : (table : fin.FinMap key_cmp V) (e : Key × V) → In e (fin.entries table) → fin.get table e.0 ≡ Some e.1
+  entry_there table e there = fin.get-entries table e.0 ∙ found_key (fin.entries table) e (fin.entries_sorted table) there
+
   pub listed_key : (table : fin.FinMap key_cmp V) (id : List ℕ) → IsIn id (ids_in (fin.entries table)) → IsKeyOf table id
   listed_key table id there =
       let one = entry_of (fin.entries table) id there in

@@ -19,13 +19,14 @@ use Rattle.tree_push.specs.BlockUpload.{NotChanged}
 use Rattle.tree_push.specs.ChangedOwns.{AreChangedOwns, Owns, changed_own, own_unless}
 use Rattle.tree_push.specs.OfferedEntries.{IsSeenFolder, offered_entry}
 use Rattle.tree_push.specs.OfferedTree.{IsMadeOf}
-use Rattle.tree_push.specs.Pushing.{HoldsOffer, PushesSo, StandAsSeen}
+use Rattle.tree_push.specs.Pushing.{HoldsOffer, PushesSo, PutsChanged, StandAsSeen}
 use Rattle.tree_push.specs.Standing.{StandsSo}
-use Rattle.tree_push.specs.Upload.{OwnedStand, SeesFolder, UploadsSo, any_key}
+use Rattle.tree_push.specs.Upload.{OwnedStand, SeesFolder, UploadsSo, OfWanted}
 use Rattle.tree_push.specs.Wanted.{AreChangedBlocks, AreOwnNamed, HasFiles}
 use Rattle.tree_push.specs.declared.asking.Library.{Library}
 use Rattle.tree_push.specs.declared.standing.Pushed.{Pushed}
 use Rattle.tree_push.specs.declared.wanted.Wanted.{Wanted}
+use Rattle.tree_push.proofs.ChangedPutLemmas.{changed_put}
 use Rattle.tree_push.proofs.HeldOfferLemmas.{holds_offer}
 use Rattle.tree_push.proofs.OfferLemmas.{offers_once}
 use Rattle.tree_push.proofs.PushLemmas.{NoUpdate, no_change_of, no_updates, push_stood, push_stopped}
@@ -62,7 +63,7 @@ module _ (library : Library) (user : List ℕ) (moment : ℕ) (parent : List ℕ
       → IfErr result IsOrderFault → Pushes old new result
   stood_push root wanted files changed named gives tree lib stand old mid new up result stands orders =
       let stood = stands_by library root parent user moment mid new result stands in
-      let are = ordered_sends library any_key up.more up.ends.0 in (
+      let are = ordered_sends library (OfWanted wanted) up.more up.ends.0 in (
         up.more ++ stood.later,
         stood.grown ∙ ap (λ (sends : List Sent). sends ++ stood.later) up.grown ∙ append_assoc old up.more stood.later,
         push_stood library user moment parent told cuts index scan wanted up.more up.ends.0 up.ends.1 up.puts root stood.later result stood.stands
@@ -70,7 +71,9 @@ module _ (library : Library) (user : List ℕ) (moment : ℕ) (parent : List ℕ
             offers_once library root parent user moment id text own cuts c index scan folder seen wanted files changed named gives tree lib up.more up.ends.1 ending last
             (all_append NoUpdate up.more (put_of library id text ending ∷ []) (no_updates library up.more are) (put_no_update id text ending, tt)) stood.later at)
             (λ id text ending last own at.
-            subst (λ (l : List Sent). HoldsOffer library user moment parent index scan (up.more ++ l) id) (sym at)
-            (holds_offer library root parent user moment id text own index scan wanted named gives up.more up.ends.1 ending last))
+            subst (λ (l : List Sent). HoldsOffer library user moment parent index scan (up.more ++ l) id × PutsChanged index scan (up.more ++ l)) (sym at) (
+              holds_offer library root parent user moment id text own index scan wanted named gives up.more up.ends.1 ending last,
+              changed_put library user moment parent told cuts index scan wanted files up.more up.ends.0 up.ends.1 up.puts id text ending last,
+            ))
             stand (no_change_of result orders),
       )

@@ -32,9 +32,9 @@ use Rattle.sync_rules.specs.declared.fault.SyncFault.TheVariants as fault
 use Rattle.sync_rules.proofs.WentLemmas.{goes_well, went_then}
 use Rattle.tree_push.specs.Asking.{ArePuts, IsOrderFault, IsSend, Replies, is_put, order_for}
 use Rattle.tree_push.specs.BlockUpload.{IsNoChange, NotChanged}
-use Rattle.tree_push.specs.Pushing.{EndsPush, HoldsOffer, HoldsSo, OffersOnce, PushesSo, StandAsSeen, is_change}
+use Rattle.tree_push.specs.Pushing.{EndsPush, HoldsOffer, HoldsSo, OffersOnce, PushesSo, PutsChanged, StandAsSeen, is_change}
 use Rattle.tree_push.specs.Standing.{IsOwnCommit, IsStored, offered_commit}
-use Rattle.tree_push.specs.Upload.{SeesFolder, UploadsAll, UploadsSo, any_key}
+use Rattle.tree_push.specs.Upload.{SeesFolder, UploadsAll, UploadsSo, OfWanted}
 use Rattle.tree_push.specs.declared.asking.Library.{Library}
 use Rattle.tree_push.specs.declared.standing.Pushed.{Pushed}
 use Rattle.tree_push.specs.declared.standing.Pushed.TheVariants.{Installed, Late}
@@ -106,8 +106,8 @@ module _ (library : Library) (user : List ℕ) (moment : ℕ) (parent : List ℕ
   pub push_stopped : (wanted : Wanted) (old new : List Sent) (f : SyncFault) (up : UploadsSo library wanted old new (Err f))
       → ((c : Contents) → told ≡ Some c → SeesFolder cuts c scan.paths → NotChanged {T = ⊤} (Err f)) → PushesSo library user moment parent told cuts index scan up.more (Err f)
   push_stopped wanted old new f up cause =
-      let are = ordered_stops library any_key f up.more up.ends in
-      let last = last_told library any_key f up.more up.ends in
+      let are = ordered_stops library (OfWanted wanted) f up.more up.ends in
+      let last = last_told library (OfWanted wanted) f up.more up.ends in
       record {
         asks = asks_all library up.more are;
         uploads = uploads_all library up.more are;
@@ -115,7 +115,7 @@ module _ (library : Library) (user : List ℕ) (moment : ℕ) (parent : List ℕ
             (made_first library.lib user (λ other. other ≡ moment) (Some parent) None library up.more [] are (λ before. tt) what.Version);
         puts = up.puts;
         rounds = subst (λ (more : List Sent). GoesInRounds Uploads more) (append-nil up.more) (rounds_first library up.more [] are tt);
-        ends = (stops_well library any_key f up.more up.ends, caused_by f up.more last, (λ other. ordered_went f up.more other last), stops_fresh library any_key f up.more up.ends);
+        ends = (stops_well library (OfWanted wanted) f up.more up.ends, caused_by f up.more last, (λ other. ordered_went f up.more other last), stops_fresh library (OfWanted wanted) f up.more up.ends);
         holds = tt;
         offers = λ c is folder seen first sent later id at update. absurd (none_updates up.more (no_updates library up.more are) first sent later id at update);
         looks = λ c is first sent later id at update. absurd (none_updates up.more (no_updates library up.more are) first sent later id at update);
@@ -156,9 +156,9 @@ module _ (library : Library) (user : List ℕ) (moment : ℕ) (parent : List ℕ
       → PutsLacked round (put_of library id text ending ∷ later)
   puts_put round id text ending later puts = (All-cons (IsLacked round) (commit_key id) [] tt (All-nil (IsLacked round)), puts)
 
-  module _ (wanted : Wanted) (more : List Sent) (went : AllByRecursion (IsSend library any_key) more) (all : UploadsAll library wanted more) (lacks : PutsLacked [] more) where
+  module _ (wanted : Wanted) (more : List Sent) (went : AllByRecursion (IsSend library (OfWanted wanted)) more) (all : UploadsAll library wanted more) (lacks : PutsLacked [] more) where
     are : AllByRecursion (IsOrdered library) more
-    are = ordered_sends library any_key more went
+    are = ordered_sends library (OfWanted wanted) more went
 
     -- orders that put tell nothing of what is lacking
     puts_lack : (third : List Sent) → ArePuts third → keys_lacked third ≡ []
@@ -171,7 +171,7 @@ module _ (library : Library) (user : List ℕ) (moment : ℕ) (parent : List ℕ
         by _ put none = absurd (true≢false (sym put))
 
     -- all that was lacking was put before the update
-    all_put : (id text : List ℕ) (ending : Ending) (key : Key) → is_in (keys_lacked (more ++ put_of library id text ending ∷ [])) key ≡ true
+    pub all_put : (id text : List ℕ) (ending : Ending) (key : Key) → is_in (keys_lacked (more ++ put_of library id text ending ∷ [])) key ≡ true
         → is_in (keys_put (more ++ put_of library id text ending ∷ [])) key ≡ true
     all_put id text ending key there =
         let asked = all.first ++ all.second in
@@ -196,7 +196,7 @@ module _ (library : Library) (user : List ℕ) (moment : ℕ) (parent : List ℕ
         puts_put more id text ending (update_of library id last ∷ []) (all_of (λ key. is_in (keys_put round) key ≡ true) (keys_lacked round) (all_put id text ending), tt)
 
     well : All WentWell more
-    well = sends_well library any_key more went
+    well = sends_well library (OfWanted wanted) more went
 
     put_well : (id text : List ℕ) (ending : Ending) (r : Reply) → Replies ending r → IsStored r → WentWell (put_of library id text ending)
     put_well id text ending (reply.Stored is_new) replied stored =
@@ -216,7 +216,7 @@ module _ (library : Library) (user : List ℕ) (moment : ℕ) (parent : List ℕ
           went_then more (put_of library id text ending ∷ []) well tt,
           caused_by f (more ++ put_of library id text ending ∷ []) (inr last),
           (λ other. ordered_went f (more ++ put_of library id text ending ∷ []) other (inr last)),
-          fresh_append more (put_of library id text ending ∷ []) (sends_fresh library any_key more went)
+          fresh_append more (put_of library id text ending ∷ []) (sends_fresh library (OfWanted wanted) more went)
               (fresh_more (put_of library id text ending) [] (ends_fresh (what.Put (commit_key id) text) ending f ends) refl),
         )
     ends_put id text ending (Err f) (inr none) =
@@ -224,7 +224,7 @@ module _ (library : Library) (user : List ℕ) (moment : ℕ) (parent : List ℕ
           went_then more (put_of library id text ending ∷ []) well tt,
           tt,
           (λ other. absurd (true≢false other)),
-          fresh_append more (put_of library id text ending ∷ []) (sends_fresh library any_key more went)
+          fresh_append more (put_of library id text ending ∷ []) (sends_fresh library (OfWanted wanted) more went)
               (fresh_more (put_of library id text ending) [] (stored_fresh ending none.1.0 none.1.1 none.1.2) refl),
         )
 
@@ -251,7 +251,7 @@ module _ (library : Library) (user : List ℕ) (moment : ℕ) (parent : List ℕ
       front = more ++ put ∷ []
 
       front_fresh : stale_count front ≡ 0
-      front_fresh = fresh_append more (put ∷ []) (sends_fresh library any_key more went) (fresh_more put [] (stored_fresh ending r replied stored) refl)
+      front_fresh = fresh_append more (put ∷ []) (sends_fresh library (OfWanted wanted) more went) (fresh_more put [] (stored_fresh ending r replied stored) refl)
 
       all_well : WentWell (update_of library id last) → All WentWell whole
       all_well updates =
@@ -300,8 +300,8 @@ module _ (library : Library) (user : List ℕ) (moment : ℕ) (parent : List ℕ
     -- ---- at what it stands
 
     holds_by : (sends : List Sent) (id : List ℕ) (last : Ending) (result : Result Pushed SyncFault) → EndsUpdate library id last result
-        → HoldsOffer library user moment parent index scan sends id → HoldsSo library user moment parent index scan sends result
-    holds_by sends id last (Ok (Installed commit head)) (told, tells, is) holds = subst (HoldsOffer library user moment parent index scan sends) (sym is.0) holds
+        → HoldsOffer library user moment parent index scan sends id × PutsChanged index scan sends → HoldsSo library user moment parent index scan sends result
+    holds_by sends id last (Ok (Installed commit head)) (told, tells, is) holds = (subst (HoldsOffer library user moment parent index scan sends) (sym is.0) holds.0, holds.1)
     holds_by sends id last (Ok (Late now)) ends holds = tt
     holds_by sends id last (Err f) ends holds = tt
 
@@ -319,7 +319,7 @@ module _ (library : Library) (user : List ℕ) (moment : ℕ) (parent : List ℕ
         → ((id text : List ℕ) (ending last : Ending) → IsOwnCommit library root parent user moment id text → later ≡ put_of library id text ending ∷ update_of library id last ∷ []
         → (c : Contents) → told ≡ Some c → IsFolder c → IsScan cuts c scan → OffersOnce cuts c index user moment parent (more ++ later))
         → ((id text : List ℕ) (ending last : Ending) → IsOwnCommit library root parent user moment id text → later ≡ put_of library id text ending ∷ update_of library id last ∷ []
-        → HoldsOffer library user moment parent index scan (more ++ later) id)
+        → HoldsOffer library user moment parent index scan (more ++ later) id × PutsChanged index scan (more ++ later))
         → ((c : Contents) → told ≡ Some c → StandAsSeen cuts c index scan) → IsNotChanged result
         → PushesSo library user moment parent told cuts index scan (more ++ later) result
     push_stood root later result (inl none) offers held stand quiet =
@@ -332,7 +332,7 @@ module _ (library : Library) (user : List ℕ) (moment : ℕ) (parent : List ℕ
               (made_first library.lib user (λ other. other ≡ moment) (Some parent) None library more [] are (λ before. tt) what.Version);
           puts = lacks;
           rounds = subst (λ (l : List Sent). GoesInRounds Uploads l) (append-nil more) (rounds_first library more [] are tt);
-          ends = (goes_well more well, tt, (λ other. absurd (true≢false other)), sends_fresh library any_key more went);
+          ends = (goes_well more well, tt, (λ other. absurd (true≢false other)), sends_fresh library (OfWanted wanted) more went);
           holds = tt;
           offers = λ c is folder seen first sent after id at update. absurd (none_updates more (no_updates library more are) first sent after id at update);
           looks = λ c is first sent after id at update. stand c is;

@@ -27,7 +27,7 @@ use Rattle.remote_calls.specs.Sends.{Sent}
 use Rattle.sync_rules.specs.Named.{is_upload, keys_put, put_by}
 use Rattle.sync_rules.specs.declared.fault.SyncFault.{SyncFault}
 use Rattle.sync_rules.specs.Orders.{IsRowNamed}
-use Rattle.tree_push.specs.Asking.{ArePuts, AsksSo, EndsBy, IsFree, IsSmall, IsUploadWhat, PutsOf, Ran, Stopped, StoresSo, Went, is_own, is_put, order_for}
+use Rattle.tree_push.specs.Asking.{ArePuts, AsksSo, EndsBy, IsFree, IsSmall, IsUploadWhat, Ran, Stopped, StoresSo, Went, is_own, is_put, order_for, PutsAmong}
 use Rattle.tree_push.specs.Lacking.{Keys, has_key}
 use Rattle.tree_push.specs.Puts.{HasRoom, IsBatch, PutsInto, PutsKeys, PutsSome, row_keys, row_of}
 use Rattle.tree_push.specs.declared.asking.Library.{Library}
@@ -52,8 +52,8 @@ all_in front (key ∷ keys) = (
 )
 
 -- an order puts what it puts
-pub puts_own : (asked : What) → PutsOf (is_in (put_by asked)) asked
-puts_own asked = all_in [] (put_by asked)
+pub puts_own : (asked : What) → is_put asked ≡ true → PutsAmong (is_in (put_by asked)) asked
+puts_own asked puts = (puts, all_in [] (put_by asked))
 
 put_uploads : (asked : What) → is_put asked ≡ true → is_upload asked ≡ true
 put_uploads (what.Put key bytes) is = refl
@@ -89,54 +89,54 @@ key_is_listed table key there = sym (contains_key-keys table key) ∙ there
 module _ (library : Library) where
   -- one order that puts
   pub put_asked : (asked : What) (old new : List Sent) (r : Reply) (result : Result ⊤ SyncFault) → is_put asked ≡ true → IsUploadWhat asked → AsksSo library asked old new (Ok r) → StoresSo r result
-      → Went library (is_in (put_by asked)) (PutsKeys (put_by asked)) old new result
+      → Went library (PutsAmong (is_in (put_by asked))) (PutsKeys (put_by asked)) old new result
   put_asked asked old new (reply.Stored is_new) result puts uploads asks is =
-      subst (λ (r : Result ⊤ SyncFault). Went library (is_in (put_by asked)) (PutsKeys (put_by asked)) old new r) (sym is) (record {
+      subst (λ (r : Result ⊤ SyncFault). Went library (PutsAmong (is_in (put_by asked))) (PutsKeys (put_by asked)) old new r) (sym is) (record {
         more = (order_for library asked, asks.0) ∷ [];
         grown = asks.1;
-        went = (record { order = refl; uploads = uploads; puts = puts_own asked; told = reply.Stored is_new; replied = asks.2; well = refl }, tt);
+        went = (record { order = refl; uploads = uploads; among = puts_own asked puts; told = reply.Stored is_new; replied = asks.2; well = refl }, tt);
         are = ((puts, tt), append-nil (put_by asked));
       })
   put_asked asked old new (reply.Refused why) result puts uploads asks is =
-      subst (λ (r : Result ⊤ SyncFault). Went library (is_in (put_by asked)) (PutsKeys (put_by asked)) old new r) (sym is) (record {
+      subst (λ (r : Result ⊤ SyncFault). Went library (PutsAmong (is_in (put_by asked))) (PutsKeys (put_by asked)) old new r) (sym is) (record {
         more = (order_for library asked, asks.0) ∷ [];
         grown = asks.1;
-        stops = inr (record { order = refl; uploads = uploads; puts = puts_own asked; ends = (asks.2, upload_ends asked (put_uploads asked puts) (put_no_update asked puts) why asks.3) }, refl);
+        stops = inr (record { order = refl; uploads = uploads; among = puts_own asked puts; ends = (asks.2, upload_ends asked (put_uploads asked puts) (put_no_update asked puts) why asks.3) }, refl);
       })
   put_asked asked old new other result puts uploads asks is = absurd is
 
   -- an order that came to nothing
-  pub put_failed : (asked : What) (old new : List Sent) (f : SyncFault) → IsUploadWhat asked → AsksSo library asked old new (Err f) → Stopped library (is_in (put_by asked)) f old new
-  put_failed asked old new f uploads (inl none) =
+  pub put_failed : (asked : What) (old new : List Sent) (f : SyncFault) → is_put asked ≡ true → IsUploadWhat asked → AsksSo library asked old new (Err f) → Stopped library (PutsAmong (is_in (put_by asked))) f old new
+  put_failed asked old new f puts uploads (inl none) =
       record { more = []; grown = none.1 ∙ sym (append-nil old); stops = subst (λ (g : SyncFault). is_own g ≡ true) (sym none.0) refl }
-  put_failed asked old new f uploads (inr one) = record {
+  put_failed asked old new f puts uploads (inr one) = record {
     more = (order_for library asked, Err one.0) ∷ [];
     grown = one.1;
-    stops = inr (record { order = refl; uploads = uploads; puts = puts_own asked; ends = subst (λ (g : SyncFault). EndsBy asked (Err one.0) g) (sym one.2) refl }, refl);
+    stops = inr (record { order = refl; uploads = uploads; among = puts_own asked puts; ends = subst (λ (g : SyncFault). EndsBy asked (Err one.0) g) (sym one.2) refl }, refl);
   }
 
   -- nothing is put
-  pub put_none : (rows : List Row) (old new : List Sent) → new ≡ old → Ran library (is_in (row_keys rows)) (PutsSome rows rows) old new
-  put_none rows old new same = ran_none library (is_in (row_keys rows)) (PutsSome rows rows) old new same (tt, refl)
+  pub put_none : (rows : List Row) (old new : List Sent) → new ≡ old → Ran library (PutsAmong (is_in (row_keys rows))) (PutsSome rows rows) old new
+  put_none rows old new same = ran_none library (PutsAmong (is_in (row_keys rows))) (PutsSome rows rows) old new same (tt, refl)
 
   -- all that waited is put
-  pub put_waiting : {T : Type 0} (rows before after : List Row) (old new : List Sent) (result : Result T SyncFault) → rows ≡ before → after ≡ [] → Went library (is_in (row_keys rows)) (PutsKeys (row_keys rows)) old new result
-      → Went library (is_in (row_keys before)) (PutsSome before after) old new result
+  pub put_waiting : {T : Type 0} (rows before after : List Row) (old new : List Sent) (result : Result T SyncFault) → rows ≡ before → after ≡ [] → Went library (PutsAmong (is_in (row_keys rows))) (PutsKeys (row_keys rows)) old new result
+      → Went library (PutsAmong (is_in (row_keys before))) (PutsSome before after) old new result
   put_waiting rows before after old new result same none went =
-      went_as library (is_in (row_keys before)) (PutsKeys (row_keys rows)) (PutsSome before after)
+      went_as library (PutsAmong (is_in (row_keys before))) (PutsKeys (row_keys rows)) (PutsSome before after)
       (λ more puts. (puts.0, ap (λ (l : List Row). keys_put more ++ row_keys l) none ∙ append-nil (keys_put more) ∙ puts.1 ∙ ap row_keys same)) old new result
-      (subst (λ (l : List Row). Went library (is_in (row_keys l)) (PutsKeys (row_keys rows)) old new result) same went)
+      (subst (λ (l : List Row). Went library (PutsAmong (is_in (row_keys l))) (PutsKeys (row_keys rows)) old new result) same went)
 
   -- a key that wasn't made
-  pub put_skipped : (made : Objects) (key : Key) (rows : List Row) (old new : List Sent) → new ≡ old → fin.get made key ≡ None → Ran library (is_in (row_keys rows)) (PutsInto made (key ∷ []) rows rows) old new
+  pub put_skipped : (made : Objects) (key : Key) (rows : List Row) (old new : List Sent) → new ≡ old → fin.get made key ≡ None → Ran library (PutsAmong (is_in (row_keys rows))) (PutsInto made (key ∷ []) rows rows) old new
   put_skipped made key rows old new same none =
-      ran_none library (is_in (row_keys rows)) (PutsInto made (key ∷ []) rows rows) old new same
+      ran_none library (PutsAmong (is_in (row_keys rows))) (PutsInto made (key ∷ []) rows rows) old new same
       (tt, sym (append-nil (row_keys rows)) ∙ ap (λ (b : Bool). row_keys rows ++ cond b (key ∷ []) []) (sym (ap is_some none)))
 
   -- one that was waits behind the others
-  pub put_added : (made : Objects) (key : Key) (bytes text : List ℕ) (rows mid all : List Row) (old new : List Sent) (result : Result ⊤ SyncFault) → Ran library (is_in (row_keys rows)) (PutsSome rows mid) old new
+  pub put_added : (made : Objects) (key : Key) (bytes text : List ℕ) (rows mid all : List Row) (old new : List Sent) (result : Result ⊤ SyncFault) → Ran library (PutsAmong (is_in (row_keys rows))) (PutsSome rows mid) old new
       → IsFree result → OnOk result (all ≡ mid ++ row_of key.id bytes ∷ []) → fin.get made key ≡ Some text → fs_key key.id ≡ key
-      → Went library (is_in (row_keys rows)) (PutsInto made (key ∷ []) rows all) old new result
+      → Went library (PutsAmong (is_in (row_keys rows))) (PutsInto made (key ∷ []) rows all) old new result
   put_added made key bytes text rows mid all old new (Ok x) ran free more there own = record {
     more = ran.more;
     grown = ran.grown;
@@ -148,14 +148,14 @@ module _ (library : Library) where
           ∙ ap₂ (λ (a b : List Key). a ++ b) ran.are.1 (ap (λ (k : Key). k ∷ []) own ∙ ap (λ (b : Bool). cond b (key ∷ []) []) (sym (ap is_some there))),
     );
   }
-  put_added made key bytes text rows mid all old new (Err f) ran free more there own = went_free library (is_in (row_keys rows)) {T = ⊤} (PutsSome rows mid) old new (Err f) ran free
+  put_added made key bytes text rows mid all old new (Err f) ran free more there own = went_free library (PutsAmong (is_in (row_keys rows))) {T = ⊤} (PutsSome rows mid) old new (Err f) ran free
 
   -- ---- one key after another
 
   pub putting_start : (made : Objects) (lacking : Keys) (left : List (Key × ⊤)) (rows : List Row) (sends : List Sent) → left ≡ fin.entries lacking → rows ≡ []
-      → Ran library (has_key lacking) (IsLeft made (fin.keys lacking) left rows) sends sends
+      → Ran library (PutsAmong (has_key lacking)) (IsLeft made (fin.keys lacking) left rows) sends sends
   putting_start made lacking left rows sends all none =
-      ran_none library (has_key lacking) (IsLeft made (fin.keys lacking) left rows) sends sends refl
+      ran_none library (PutsAmong (has_key lacking)) (IsLeft made (fin.keys lacking) left rows) sends sends refl
       (tt, ap₂ (λ (r : List Row) (l : List (Key × ⊤)). row_keys r ++ filter (has_key made) (map (λ (e : Key × ⊤). e.0) l)) none all)
 
   module _ (made : Objects) (lacking : Keys) where
@@ -173,10 +173,10 @@ module _ (library : Library) where
         ∙ or_left (is_in (keys_put more ++ row_keys rows) key) (is_in behind key) waiting in
         is_listed_key lacking key (in_filter (has_key made) keys key all)
 
-    pub putting_more : (key : Key) (left : List (Key × ⊤)) (rows all : List Row) (old mid new : List Sent) → Ran library (has_key lacking) (IsLeft made keys ((key, tt) ∷ left) rows) old mid
-        → Ran library (is_in (row_keys rows)) (PutsInto made (key ∷ []) rows all) mid new → Ran library (has_key lacking) (IsLeft made keys left all) old new
+    pub putting_more : (key : Key) (left : List (Key × ⊤)) (rows all : List Row) (old mid new : List Sent) → Ran library (PutsAmong (has_key lacking)) (IsLeft made keys ((key, tt) ∷ left) rows) old mid
+        → Ran library (PutsAmong (is_in (row_keys rows))) (PutsInto made (key ∷ []) rows all) mid new → Ran library (PutsAmong (has_key lacking)) (IsLeft made keys left all) old new
     putting_more key left rows all old mid new ran then =
-        went_more library (has_key lacking) (IsLeft made keys ((key, tt) ∷ left) rows) (PutsInto made (key ∷ []) rows all) (IsLeft made keys left all) join old mid new {T = ⊤} (Ok tt) ran
+        went_more library (PutsAmong (has_key lacking)) (IsLeft made keys ((key, tt) ∷ left) rows) (PutsInto made (key ∷ []) rows all) (IsLeft made keys left all) join old mid new {T = ⊤} (Ok tt) ran
         (went_wide library (is_in (row_keys rows)) (has_key lacking) (waits_lacking ((key, tt) ∷ left) rows ran.more ran.are) {T = ⊤} (PutsInto made (key ∷ []) rows all) mid new (Ok tt) then)
       where
         join : (first later : List Sent) → IsLeft made keys ((key, tt) ∷ left) rows first → PutsInto made (key ∷ []) rows all later → IsLeft made keys left all (first ++ later)
@@ -191,17 +191,17 @@ module _ (library : Library) where
             )
 
     -- a fault in the middle
-    pub putting_stop : (left : List (Key × ⊤)) (rows : List Row) (old mid new : List Sent) (f : SyncFault) → Ran library (has_key lacking) (IsLeft made keys left rows) old mid
-        → Stopped library (is_in (row_keys rows)) f mid new → Stopped library (has_key lacking) f old new
+    pub putting_stop : (left : List (Key × ⊤)) (rows : List Row) (old mid new : List Sent) (f : SyncFault) → Ran library (PutsAmong (has_key lacking)) (IsLeft made keys left rows) old mid
+        → Stopped library (PutsAmong (is_in (row_keys rows))) f mid new → Stopped library (PutsAmong (has_key lacking)) f old new
     putting_stop left rows old mid new f ran then =
-        stopped_later library (has_key lacking) (IsLeft made keys left rows) old mid new f ran
+        stopped_later library (PutsAmong (has_key lacking)) (IsLeft made keys left rows) old mid new f ran
         (went_wide library (is_in (row_keys rows)) (has_key lacking) (waits_lacking left rows ran.more ran.are) {T = ⊤} (IsLeft made keys left rows) mid new (Err f) then)
 
     pub putting_end : (left : List (Key × ⊤)) (rows after : List Row) (old mid new : List Sent) (result : Result ⊤ SyncFault) → left ≡ [] → after ≡ []
-        → Ran library (has_key lacking) (IsLeft made keys left rows) old mid → Went library (is_in (row_keys rows)) (PutsSome rows after) mid new result
-        → Went library (has_key lacking) (PutsKeys (filter (has_key made) keys)) old new result
+        → Ran library (PutsAmong (has_key lacking)) (IsLeft made keys left rows) old mid → Went library (PutsAmong (is_in (row_keys rows))) (PutsSome rows after) mid new result
+        → Went library (PutsAmong (has_key lacking)) (PutsKeys (filter (has_key made) keys)) old new result
     putting_end left rows after old mid new result all none ran then =
-        went_more library (has_key lacking) (IsLeft made keys left rows) (PutsSome rows after) (PutsKeys (filter (has_key made) keys)) join old mid new result ran
+        went_more library (PutsAmong (has_key lacking)) (IsLeft made keys left rows) (PutsSome rows after) (PutsKeys (filter (has_key made) keys)) join old mid new result ran
         (went_wide library (is_in (row_keys rows)) (has_key lacking) (waits_lacking left rows ran.more ran.are) (PutsSome rows after) mid new result then)
       where
         join : (first later : List Sent) → IsLeft made keys left rows first → PutsSome rows after later → PutsKeys (filter (has_key made) keys) (first ++ later)

@@ -28,7 +28,7 @@ use Rattle.sync_rules.specs.Orders.{AsksFew, GoesInRounds, IsLacked, IsSyncOrder
 use Rattle.sync_rules.specs.Orders.Stage.{Uploads}
 use Rattle.sync_rules.specs.declared.fault.SyncFault.{SyncFault}
 use Rattle.sync_rules.specs.declared.fault.SyncFault.TheVariants as fault
-use Rattle.tree_push.specs.Asking.{EndsBy, IsSend, IsUploadWhat, PutsOf, Replies, Stops, is_own, is_refused, no_key, order_for}
+use Rattle.tree_push.specs.Asking.{EndsBy, IsSend, IsUploadWhat, Replies, Stops, is_own, is_refused, order_for, AsksAmong, PutsAmong}
 use Rattle.tree_push.specs.Pushing.{IsPushFault}
 use Rattle.tree_push.specs.declared.asking.Library.{Library}
 use Rattle.tree_push.proofs.NotedLemmas.{lacked_append}
@@ -41,10 +41,10 @@ pub record IsOrdered (library : Library) (sent : Sent) : Type 0 where
   pub uploads : IsUploadWhat sent.0.what
 
 module _ (library : Library) where
-  pub ordered_sends : (may : Key → Bool) (more : List Sent) → AllByRecursion (IsSend library may) more → AllByRecursion (IsOrdered library) more
+  pub ordered_sends : (may : What → Type 0) (more : List Sent) → AllByRecursion (IsSend library may) more → AllByRecursion (IsOrdered library) more
   ordered_sends may more went = all_as (IsSend library may) (IsOrdered library) (λ sent is. record { order = is.order; uploads = is.uploads }) more went
 
-  pub ordered_stops : (may : Key → Bool) (f : SyncFault) (more : List Sent) → Stops library may f more → AllByRecursion (IsOrdered library) more
+  pub ordered_stops : (may : What → Type 0) (f : SyncFault) (more : List Sent) → Stops library may f more → AllByRecursion (IsOrdered library) more
   ordered_stops may f [] own = tt
   ordered_stops may f (sent ∷ more) (inl on) = (record { order = on.0.order; uploads = on.0.uploads }, ordered_stops may f more on.1)
   ordered_stops may f (sent ∷ more) (inr ends) =
@@ -169,7 +169,7 @@ replied_fresh told (Ok (outcome.Plain (reply.Refused why) tag)) replied well = a
 replied_fresh told (Ok (outcome.Refused why)) replied well = absurd (true≢false (sym (ap is_refused replied) ∙ well))
 replied_fresh told _ replied well = refl
 
-module _ (library : Library) (may : Key → Bool) where
+module _ (library : Library) (may : What → Type 0) where
   pub send_well : (sent : Sent) → IsSend library may sent → WentWell sent
   send_well sent is = replied_well sent.0.what sent.0 is.told sent.1 refl (upload_what sent.0.what is.uploads) is.replied is.well
 
@@ -214,7 +214,7 @@ ends_fresh asked ending (fault.Remote why) ends = ap is_stale ends
 ends_fresh asked ending (fault.Refused why) ends = refused_fresh asked why ending (replies_refused ending why ends.0) ends.1
 ends_fresh asked ending _ ends = absurd ends
 
-module _ (library : Library) (may : Key → Bool) where
+module _ (library : Library) (may : What → Type 0) where
   pub sends_fresh : (more : List Sent) → AllByRecursion (IsSend library may) more → stale_count more ≡ 0
   sends_fresh [] went = refl
   sends_fresh (sent ∷ more) went = fresh_more sent more (replied_fresh went.0.told sent.1 went.0.replied went.0.well) (sends_fresh more went.1)
@@ -234,7 +234,7 @@ pub record TellsLast (f : SyncFault) (more : List Sent) : Type 0 where
   pub ends : more ≡ before ++ sent ∷ []
   pub told : EndsBy sent.0.what sent.1 f
 
-module _ (library : Library) (may : Key → Bool) (f : SyncFault) where
+module _ (library : Library) (may : What → Type 0) (f : SyncFault) where
   pub last_told : (more : List Sent) → Stops library may f more → ((is_own f ≡ true) × All WentWell more) ⊎ TellsLast f more
   last_told [] own = inl (own, All-nil WentWell)
   last_told (sent ∷ more) (inl on) = by (last_told more on.1)
@@ -280,18 +280,21 @@ lacked_as round key kind.Commit there = tt
 lacked_as round key kind.Fs there = there
 lacked_as round key kind.Block there = there
 
-module _ (library : Library) (may : Key → Bool) where
-  all_lacked : (round : List Sent) (keys : List Key) → ((key : Key) → may key ≡ true → is_in (keys_lacked round) key ≡ true) → AllByRecursion (λ (key : Key). may key ≡ true) keys
-      → All (IsLacked round) keys
-  all_lacked round [] wider are = All-nil (IsLacked round)
-  all_lacked round (key ∷ keys) wider are = All-cons (IsLacked round) key keys (lacked_as round key key.kind (wider key are.0)) (all_lacked round keys wider are.1)
+-- each key that an order puts was told to lack
+abbrev pub PutsTold : List Sent → What → Type 0
+PutsTold round asked = AllByRecursion (λ (key : Key). is_in (keys_lacked round) key ≡ true) (put_by asked)
 
-  puts_at : (round : List Sent) (asked : What) → ((key : Key) → may key ≡ true → is_in (keys_lacked round) key ≡ true) → IsUploadWhat asked → PutsOf may asked → PutsAt round asked
-  puts_at round (what.Missing kind ids) wider up puts = All-nil (IsLacked round)
-  puts_at round (what.Put key bytes) wider up puts = all_lacked round (key ∷ []) wider puts
-  puts_at round (what.PutFs rows) wider up puts = all_lacked round (put_by (what.PutFs rows)) wider puts
-  puts_at round _ wider up puts = absurd up
+all_lacked : (round : List Sent) (keys : List Key) → AllByRecursion (λ (key : Key). is_in (keys_lacked round) key ≡ true) keys → All (IsLacked round) keys
+all_lacked round [] are = All-nil (IsLacked round)
+all_lacked round (key ∷ keys) are = All-cons (IsLacked round) key keys (lacked_as round key key.kind are.0) (all_lacked round keys are.1)
 
+puts_at : (round : List Sent) (asked : What) → IsUploadWhat asked → PutsTold round asked → PutsAt round asked
+puts_at round (what.Missing kind ids) up told = All-nil (IsLacked round)
+puts_at round (what.Put key bytes) up told = all_lacked round (key ∷ []) told
+puts_at round (what.PutFs rows) up told = all_lacked round (put_by (what.PutFs rows)) told
+puts_at round _ up told = absurd up
+
+module _ (library : Library) (may : What → Type 0) where
   pub round_grows : (round : List Sent) (sent : Sent) → IsUploadWhat sent.0.what → round_after round sent ≡ round ++ sent ∷ []
   round_grows round sent up = ap (λ (b : Bool). if b then [] else round ++ sent ∷ []) (begins_none sent.0.what up)
     where
@@ -301,35 +304,42 @@ module _ (library : Library) (may : Key → Bool) where
       begins_none (what.PutFs rows) up = refl
       begins_none _ up = absurd up
 
-  still_lacked : (round : List Sent) (sent : Sent) → ((key : Key) → may key ≡ true → is_in (keys_lacked round) key ≡ true) → (key : Key) → may key ≡ true
-      → is_in (keys_lacked (round ++ sent ∷ [])) key ≡ true
-  still_lacked round sent wider key there =
+  still_told : (round : List Sent) (sent : Sent) → ((asked : What) → may asked → PutsTold round asked) → (asked : What) → may asked → PutsTold (round ++ sent ∷ []) asked
+  still_told round sent wider asked is =
+      all_as (λ (key : Key). is_in (keys_lacked round) key ≡ true) (λ (key : Key). is_in (keys_lacked (round ++ sent ∷ [])) key ≡ true)
+      (λ key there.
       ap (λ (keys : List Key). is_in keys key) (lacked_append round (sent ∷ [])) ∙ in_append (keys_lacked round) (keys_lacked (sent ∷ [])) key
-      ∙ or_left (is_in (keys_lacked round) key) (is_in (keys_lacked (sent ∷ [])) key) (wider key there)
+      ∙ or_left (is_in (keys_lacked round) key) (is_in (keys_lacked (sent ∷ [])) key) there)
+      (put_by asked) (wider asked is)
 
   -- behind what the library told to lack, and before other sends
-  pub lacked_sends : (round more later : List Sent) → ((key : Key) → may key ≡ true → is_in (keys_lacked round) key ≡ true) → AllByRecursion (IsSend library may) more
+  pub lacked_sends : (round more later : List Sent) → ((asked : What) → may asked → PutsTold round asked) → AllByRecursion (IsSend library may) more
       → PutsLacked (round ++ more) later → PutsLacked round (more ++ later)
   lacked_sends round [] later wider went puts = subst (λ (r : List Sent). PutsLacked r later) (append-nil round) puts
   lacked_sends round (sent ∷ more) later wider went puts = (
-    puts_at round sent.0.what wider went.0.uploads went.0.puts,
+    puts_at round sent.0.what went.0.uploads (wider sent.0.what went.0.among),
     subst (λ (r : List Sent). PutsLacked r (more ++ later)) (sym (round_grows round sent went.0.uploads))
-        (lacked_sends (round ++ sent ∷ []) more later (still_lacked round sent wider) went.1
+        (lacked_sends (round ++ sent ∷ []) more later (still_told round sent wider) went.1
         (subst (λ (r : List Sent). PutsLacked r later) (sym (append_assoc round (sent ∷ []) more)) puts)),
   )
 
-  pub lacked_stops : (f : SyncFault) (round more : List Sent) → ((key : Key) → may key ≡ true → is_in (keys_lacked round) key ≡ true) → Stops library may f more → PutsLacked round more
+  pub lacked_stops : (f : SyncFault) (round more : List Sent) → ((asked : What) → may asked → PutsTold round asked) → Stops library may f more → PutsLacked round more
   lacked_stops f round [] wider own = tt
   lacked_stops f round (sent ∷ more) wider (inl on) = (
-    puts_at round sent.0.what wider on.0.uploads on.0.puts,
-    subst (λ (r : List Sent). PutsLacked r more) (sym (round_grows round sent on.0.uploads)) (lacked_stops f (round ++ sent ∷ []) more (still_lacked round sent wider) on.1),
+    puts_at round sent.0.what on.0.uploads (wider sent.0.what on.0.among),
+    subst (λ (r : List Sent). PutsLacked r more) (sym (round_grows round sent on.0.uploads)) (lacked_stops f (round ++ sent ∷ []) more (still_told round sent wider) on.1),
   )
   lacked_stops f round (sent ∷ more) wider (inr ends) =
-      (puts_at round sent.0.what wider ends.0.uploads ends.0.puts, subst (λ (rest : List Sent). PutsLacked (round_after round sent) rest) (sym ends.1) tt)
+      (puts_at round sent.0.what ends.0.uploads (wider sent.0.what ends.0.among), subst (λ (rest : List Sent). PutsLacked (round_after round sent) rest) (sym ends.1) tt)
 
--- nothing may be put
-pub none_may : (round : List Sent) (key : Key) → no_key key ≡ true → is_in (keys_lacked round) key ≡ true
-none_may round key is = absurd (true≢false (sym is))
+-- who only asks puts nothing
+pub asks_told : (kind : Kind) (ids : List (List ℕ)) (round : List Sent) (asked : What) → AsksAmong kind ids asked → PutsTold round asked
+asks_told kind ids round (what.Missing k others) is = tt
+asks_told kind ids round _ is = absurd is
+
+-- who puts what was told to lack
+pub puts_told : (may : Key → Bool) (round : List Sent) → ((key : Key) → may key ≡ true → is_in (keys_lacked round) key ≡ true) → (asked : What) → PutsAmong may asked → PutsTold round asked
+puts_told may round wider asked puts = all_as (λ (key : Key). may key ≡ true) (λ (key : Key). is_in (keys_lacked round) key ≡ true) wider (put_by asked) puts.1
 
 module _ (library : Library) where
   -- what is put before other sends is as it was
@@ -337,8 +347,8 @@ module _ (library : Library) where
   lacked_then round [] later are puts after = subst (λ (r : List Sent). PutsLacked r later) (append-nil round) after
   lacked_then round (sent ∷ first) later are puts after = (
     puts.0,
-    subst (λ (r : List Sent). PutsLacked r (first ++ later)) (sym (round_grows library no_key round sent are.0.uploads))
-        (lacked_then (round ++ sent ∷ []) first later are.1 (subst (λ (r : List Sent). PutsLacked r first) (round_grows library no_key round sent are.0.uploads) puts.1)
+    subst (λ (r : List Sent). PutsLacked r (first ++ later)) (sym (round_grows library IsUploadWhat round sent are.0.uploads))
+        (lacked_then (round ++ sent ∷ []) first later are.1 (subst (λ (r : List Sent). PutsLacked r first) (round_grows library IsUploadWhat round sent are.0.uploads) puts.1)
         (subst (λ (r : List Sent). PutsLacked r later) (sym (append_assoc round (sent ∷ []) first)) after)),
   )
 

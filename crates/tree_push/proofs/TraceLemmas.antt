@@ -1,4 +1,4 @@
--- Sends of an upload, one after another. The key lemmas are went_wide, went_more, went_free, ran_none, asking_start, asking_more,
+-- Sends of an upload, one after another. The key lemmas are went_by, went_wide, asks_wide, went_more, went_free, ran_none, asking_start, asking_more,
 -- asking_stop, asking_end and went_as.
 use Rattle.std.proofs.Common.{◌≡◌, inl, inr, ℕ, Bool, true, List, [], ◌∷◌, ◌++◌, Result, Ok, Err, refl, sym, ap, ◌∙◌, subst, append_assoc}
 use Rattle.std.specs.Prelude.{⊤}
@@ -6,11 +6,14 @@ use Rattle.std.proofs.lemmas.List.{append-nil}
 use Rattle.std.specs.List.{AllByRecursion}
 use Rattle.ids.specs.declared.key.Key.{Key}
 use Rattle.ids.specs.declared.key.Kind.{Kind}
+use Rattle.http_front.specs.declared.order.What.{What}
+use Rattle.http_front.specs.declared.order.What.TheVariants as what
 use Rattle.remote_calls.specs.Sends.{Sent}
 use Rattle.sync_rules.specs.Named.{put_by}
 use Rattle.sync_rules.specs.declared.fault.SyncFault.{SyncFault}
-use Rattle.tree_push.specs.Asking.{ArePuts, AsksIds, IsEnd, IsFree, IsSend, Ran, Stopped, Stops, Went, is_own, is_put, no_key}
+use Rattle.tree_push.specs.Asking.{ArePuts, AsksIds, IsEnd, IsFree, IsSend, Ran, Stopped, Stops, Went, is_own, is_put, AsksAmong, PutsAmong}
 use Rattle.tree_push.specs.Lacking.{AsksNoting, Keys}
+use Rattle.tree_push.specs.Wanted.{IsIn}
 use Rattle.tree_push.specs.declared.asking.Library.{Library}
 use Rattle.tree_push.proofs.NotedLemmas.{notes_join, notes_none}
 
@@ -22,17 +25,13 @@ pub all_as : {X : Type 0} (P Q : X → Type 0) → ((x : X) → P x → Q x) →
 all_as P Q so [] all = tt
 all_as P Q so (x ∷ xs) all = (so x all.0, all_as P Q so xs all.1)
 
--- where more may be put, the same sends are good
-module _ (library : Library) (may wide : Key → Bool) (wider : (key : Key) → may key ≡ true → wide key ≡ true) where
-  puts_wide : (keys : List Key) → AllByRecursion (λ (key : Key). may key ≡ true) keys → AllByRecursion (λ (key : Key). wide key ≡ true) keys
-  puts_wide keys are = all_as (λ (key : Key). may key ≡ true) (λ (key : Key). wide key ≡ true) wider keys are
-
+-- where more may be asked or put, the same sends are good
+module _ (library : Library) (may wide : What → Type 0) (wider : (asked : What) → may asked → wide asked) where
   send_wide : (sent : Sent) → IsSend library may sent → IsSend library wide sent
-  send_wide sent is =
-      record { order = is.order; uploads = is.uploads; puts = puts_wide (put_by sent.0.what) is.puts; told = is.told; replied = is.replied; well = is.well }
+  send_wide sent is = record { order = is.order; uploads = is.uploads; among = wider sent.0.what is.among; told = is.told; replied = is.replied; well = is.well }
 
   end_wide : (f : SyncFault) (sent : Sent) → IsEnd library may f sent → IsEnd library wide f sent
-  end_wide f sent is = record { order = is.order; uploads = is.uploads; puts = puts_wide (put_by sent.0.what) is.puts; ends = is.ends }
+  end_wide f sent is = record { order = is.order; uploads = is.uploads; among = wider sent.0.what is.among; ends = is.ends }
 
   pub stops_wide : (f : SyncFault) (more : List Sent) → Stops library may f more → Stops library wide f more
   stops_wide f [] own = own
@@ -42,11 +41,35 @@ module _ (library : Library) (may wide : Key → Bool) (wider : (key : Key) → 
   pub sends_wide : (more : List Sent) → AllByRecursion (IsSend library may) more → AllByRecursion (IsSend library wide) more
   sends_wide more went = all_as (IsSend library may) (IsSend library wide) send_wide more went
 
-  pub went_wide : {T : Type 0} (P : List Sent → Type 0) (old new : List Sent) (result : Result T SyncFault) → Went library may P old new result → Went library wide P old new result
-  went_wide P old new (Ok x) ran = record { more = ran.more; grown = ran.grown; went = sends_wide ran.more ran.went; are = ran.are }
-  went_wide P old new (Err f) stopped = record { more = stopped.more; grown = stopped.grown; stops = stops_wide f stopped.more stopped.stops }
+  pub went_by : {T : Type 0} (P : List Sent → Type 0) (old new : List Sent) (result : Result T SyncFault) → Went library may P old new result → Went library wide P old new result
+  went_by P old new (Ok x) ran = record { more = ran.more; grown = ran.grown; went = sends_wide ran.more ran.went; are = ran.are }
+  went_by P old new (Err f) stopped = record { more = stopped.more; grown = stopped.grown; stops = stops_wide f stopped.more stopped.stops }
 
-module _ (library : Library) (may : Key → Bool) where
+-- where more keys may be put
+pub puts_wide : (may wide : Key → Bool) → ((key : Key) → may key ≡ true → wide key ≡ true) → (asked : What) → PutsAmong may asked → PutsAmong wide asked
+puts_wide may wide wider asked puts = (puts.0, all_as (λ (key : Key). may key ≡ true) (λ (key : Key). wide key ≡ true) wider (put_by asked) puts.1)
+
+module _ (library : Library) (may wide : Key → Bool) (wider : (key : Key) → may key ≡ true → wide key ≡ true) where
+  pub went_wide : {T : Type 0} (P : List Sent → Type 0) (old new : List Sent) (result : Result T SyncFault) → Went library (PutsAmong may) P old new result
+      → Went library (PutsAmong wide) P old new result
+  went_wide P old new result went = went_by library (PutsAmong may) (PutsAmong wide) (puts_wide may wide wider) P old new result went
+
+-- an id in a part of a list
+in_before : (xs ys : List (List ℕ)) (id : List ℕ) → IsIn id xs → IsIn id (xs ++ ys)
+in_before [] ys id there = absurd there
+in_before (x ∷ xs) ys id (inl is) = inl is
+in_before (x ∷ xs) ys id (inr there) = inr (in_before xs ys id there)
+
+in_behind : (xs ys : List (List ℕ)) (id : List ℕ) → IsIn id ys → IsIn id (xs ++ ys)
+in_behind [] ys id there = there
+in_behind (x ∷ xs) ys id there = inr (in_behind xs ys id there)
+
+-- where more ids may be asked about
+pub asks_wide : (kind : Kind) (ids others : List (List ℕ)) → ((id : List ℕ) → IsIn id ids → IsIn id others) → (asked : What) → AsksAmong kind ids asked → AsksAmong kind others asked
+asks_wide kind ids others wider (what.Missing k list) is = (is.0, all_as (λ (id : List ℕ). IsIn id ids) (λ (id : List ℕ). IsIn id others) wider list is.1)
+asks_wide kind ids others wider _ is = absurd is
+
+module _ (library : Library) (may : What → Type 0) where
   pub stops_more : (f : SyncFault) (first later : List Sent) → AllByRecursion (IsSend library may) first → Stops library may f later → Stops library may f (first ++ later)
   stops_more f [] later went stops = stops
   stops_more f (sent ∷ first) later went stops = inl (went.0, stops_more f first later went.1 stops)
@@ -106,33 +129,43 @@ module _ (library : Library) where
   pub record IsAsking (kind : Kind) (ids left : List (List ℕ)) (was is : Keys) (old now : List Sent) : Type 0 where
     pub done : List (List ℕ)
     pub split : ids ≡ done ++ left
-    pub ran : Ran library no_key (AsksNoting library kind done was is) old now
+    pub ran : Ran library (AsksAmong kind ids) (AsksNoting library kind done was is) old now
 
   pub asking_start : (kind : Kind) (ids : List (List ℕ)) (was : Keys) (old : List Sent) → IsAsking kind ids ids was was old old
-  asking_start kind ids was old = record { done = []; split = refl; ran = ran_none library no_key (AsksNoting library kind [] was was) old old refl (refl, notes_none was) }
+  asking_start kind ids was old = record { done = []; split = refl; ran = ran_none library (AsksAmong kind ids) (AsksNoting library kind [] was was) old old refl (refl, notes_none was) }
 
   module _ (kind : Kind) (some others : List (List ℕ)) (was is then : Keys) where
     noting_join : (first later : List Sent) → AsksNoting library kind some was is first → AsksNoting library kind others is then later
         → AsksNoting library kind (some ++ others) was then (first ++ later)
     noting_join first later one two = (asks_join kind some others first later one.0 two.0, notes_join was is then first later one.1 two.1)
 
+  -- ids of one list more are among all
+  in_list : (ids done left first rest : List (List ℕ)) → ids ≡ done ++ left → left ≡ first ++ rest → (id : List ℕ) → IsIn id first → IsIn id ids
+  in_list ids done left first rest split cut id there =
+      subst (IsIn id) (sym (split ∙ ap (λ (l : List (List ℕ)). done ++ l) cut)) (in_behind done (first ++ rest) id (in_before first rest id there))
+
   pub asking_more : (kind : Kind) (ids left first rest : List (List ℕ)) (was is then : Keys) (old now new : List Sent) → IsAsking kind ids left was is old now → left ≡ first ++ rest
-      → Ran library no_key (AsksNoting library kind first is then) now new → IsAsking kind ids rest was then old new
+      → Ran library (AsksAmong kind first) (AsksNoting library kind first is then) now new → IsAsking kind ids rest was then old new
   asking_more kind ids left first rest was is then old now new asking cut ran = record {
     done = asking.done ++ first;
     split = asking.split ∙ ap (λ (l : List (List ℕ)). asking.done ++ l) cut ∙ sym (append_assoc asking.done first rest);
-    ran = went_more library no_key (AsksNoting library kind asking.done was is) (AsksNoting library kind first is then) (AsksNoting library kind (asking.done ++ first) was then)
-        (noting_join kind asking.done first was is then) old now new {T = ⊤} (Ok tt) asking.ran ran;
+    ran = went_more library (AsksAmong kind ids) (AsksNoting library kind asking.done was is) (AsksNoting library kind first is then) (AsksNoting library kind (asking.done ++ first) was then)
+        (noting_join kind asking.done first was is then) old now new {T = ⊤} (Ok tt) asking.ran
+        (went_by library (AsksAmong kind first) (AsksAmong kind ids) (asks_wide kind first ids (in_list ids asking.done left first rest asking.split cut)) {T = ⊤}
+        (AsksNoting library kind first is then) now new (Ok tt) ran);
   }
 
-  pub asking_stop : (kind : Kind) (ids left : List (List ℕ)) (was is : Keys) (old now new : List Sent) (f : SyncFault) → IsAsking kind ids left was is old now
-      → Stopped library no_key f now new → Stopped library no_key f old new
-  asking_stop kind ids left was is old now new f asking stops = stopped_later library no_key (AsksNoting library kind asking.done was is) old now new f asking.ran stops
+  pub asking_stop : (kind : Kind) (ids left first rest : List (List ℕ)) (was is : Keys) (old now new : List Sent) (f : SyncFault) → IsAsking kind ids left was is old now → left ≡ first ++ rest
+      → Stopped library (AsksAmong kind first) f now new → Stopped library (AsksAmong kind ids) f old new
+  asking_stop kind ids left first rest was is old now new f asking cut stopped =
+      stopped_later library (AsksAmong kind ids) (AsksNoting library kind asking.done was is) old now new f asking.ran
+      (went_by library (AsksAmong kind first) (AsksAmong kind ids) (asks_wide kind first ids (in_list ids asking.done left first rest asking.split cut)) {T = ⊤}
+      (AsksNoting library kind first was is) now new (Err f) stopped)
 
   pub asking_end : (kind : Kind) (ids left : List (List ℕ)) (was is : Keys) (old now : List Sent) → IsAsking kind ids left was is old now → left ≡ []
-      → Ran library no_key (AsksNoting library kind ids was is) old now
+      → Ran library (AsksAmong kind ids) (AsksNoting library kind ids was is) old now
   asking_end kind ids left was is old now asking none =
-      subst (λ (l : List (List ℕ)). Ran library no_key (AsksNoting library kind l was is) old now)
+      subst (λ (l : List (List ℕ)). Ran library (AsksAmong kind ids) (AsksNoting library kind l was is) old now)
       (sym (asking.split ∙ ap (λ (l : List (List ℕ)). asking.done ++ l) none ∙ append-nil asking.done)) asking.ran
 
   -- ---- puts

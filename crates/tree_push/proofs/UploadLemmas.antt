@@ -26,6 +26,7 @@ use Rattle.folder_side.specs.declared.scan_report.Seen.TheVariants as seen
 use Rattle.folder_side.proofs.SortedEntryLemmas.{skip_first}
 use Rattle.http_client.specs.OrderOutcome.{are_among, is_among}
 use Rattle.http_front.specs.declared.order.Order.{Order}
+use Rattle.http_front.specs.declared.order.What.{What}
 use Rattle.remote_calls.specs.Sends.{Sent}
 use Rattle.sync_rules.specs.Named.{keys_lacked, keys_put, lacked_by}
 use Rattle.sync_rules.specs.Orders.{PutsLacked}
@@ -36,7 +37,7 @@ use Rattle.tree_push.specs.BlockUpload.{IsReadFault, PutsOff}
 use Rattle.tree_push.specs.Lacking.{AsksNoting, Keys, has_key}
 use Rattle.tree_push.specs.OfferedEntries.{SeenPaths}
 use Rattle.tree_push.specs.Puts.{PutsMade}
-use Rattle.tree_push.specs.Upload.{IsUploadFault, UploadsAll, UploadsSo, any_key, blocks_in, blocks_of}
+use Rattle.tree_push.specs.Upload.{IsUploadFault, UploadsAll, UploadsSo, blocks_in, blocks_of, OfWanted}
 use Rattle.tree_push.specs.Wanted.{AreOwnNamed, AreSeenBlocks, IsIn, IsSeenBlock, ids_in}
 use Rattle.tree_push.specs.declared.asking.Library.{Library}
 use Rattle.tree_push.specs.declared.wanted.Wanted.{Wanted}
@@ -44,7 +45,7 @@ use Rattle.tree_push.proofs.KeyEntryLemmas.{listed_key}
 use Rattle.tree_push.proofs.LackingLemmas.{lacked_of}
 use Rattle.tree_push.proofs.PutsLemmas.{in_filter, is_listed_key, key_is_listed, put_append}
 use Rattle.tree_push.proofs.NotedLemmas.{lacked_append}
-use Rattle.tree_push.proofs.RoundLemmas.{lacked_sends, lacked_stops}
+use Rattle.tree_push.proofs.RoundLemmas.{lacked_sends, lacked_stops, PutsTold}
 use Rattle.tree_push.proofs.TraceLemmas.{all_append, puts_join, sends_wide, stops_more, stops_wide}
 
 -- ---- files of which nothing is lacking
@@ -234,50 +235,46 @@ seen_listed seens key block =
 -- ---- orders, one after another
 
 -- sends that went well, and behind which what was told to lack may be put
-pub record IsPassed (library : Library) (old now : List Sent) : Type 0 where
+pub record IsPassed (library : Library) (wanted : Wanted) (old now : List Sent) : Type 0 where
   pub more : List Sent
   pub grown : now ≡ old ++ more
-  pub went : AllByRecursion (IsSend library any_key) more
+  pub went : AllByRecursion (IsSend library (OfWanted wanted)) more
   pub puts : (later : List Sent) → PutsLacked more later → PutsLacked [] (more ++ later)
 
-module _ (library : Library) (may : Key → Bool) (P : List Sent → Type 0) where
-  pub all_may : (key : Key) → may key ≡ true → any_key key ≡ true
-  all_may key is = refl
-
-  unfoldable pub passed_start : (old now : List Sent) → Ran library may P old now → ((key : Key) → may key ≡ true → is_in (keys_lacked []) key ≡ true) → IsPassed library old now
-  passed_start old now ran wider = record {
+module _ (library : Library) (wanted : Wanted) (may : What → Type 0) (of : (asked : What) → may asked → OfWanted wanted asked) (P : List Sent → Type 0) where
+  unfoldable pub passed_start : (old now : List Sent) → Ran library may P old now → ((asked : What) → may asked → PutsTold [] asked) → IsPassed library wanted old now
+  passed_start old now ran told = record {
     more = ran.more;
     grown = ran.grown;
-    went = sends_wide library may any_key all_may ran.more ran.went;
-    puts = λ later puts. lacked_sends library may [] ran.more later wider ran.went puts;
+    went = sends_wide library may (OfWanted wanted) of ran.more ran.went;
+    puts = λ later puts. lacked_sends library may [] ran.more later told ran.went puts;
   }
 
-  module _ (old mid new : List Sent) (passed : IsPassed library old mid) (wider : (key : Key) → may key ≡ true → is_in (keys_lacked passed.more) key ≡ true) where
-    unfoldable pub passed_more : Ran library may P mid new → IsPassed library old new
+  module _ (old mid new : List Sent) (passed : IsPassed library wanted old mid) (told : (asked : What) → may asked → PutsTold passed.more asked) where
+    unfoldable pub passed_more : Ran library may P mid new → IsPassed library wanted old new
     passed_more ran = record {
       more = passed.more ++ ran.more;
       grown = ran.grown ∙ ap (λ (sends : List Sent). sends ++ ran.more) passed.grown ∙ append_assoc old passed.more ran.more;
-      went = all_append (IsSend library any_key) passed.more ran.more passed.went (sends_wide library may any_key all_may ran.more ran.went);
+      went = all_append (IsSend library (OfWanted wanted)) passed.more ran.more passed.went (sends_wide library may (OfWanted wanted) of ran.more ran.went);
       puts = λ later puts.
           subst (λ (sends : List Sent). PutsLacked [] sends) (sym (append_assoc passed.more ran.more later))
-          (passed.puts (ran.more ++ later) (lacked_sends library may passed.more ran.more later wider ran.went puts));
+          (passed.puts (ran.more ++ later) (lacked_sends library may passed.more ran.more later told ran.went puts));
     }
 
-    pub passed_stop : (wanted : Wanted) (f : SyncFault) → Stopped library may f mid new → UploadsSo library wanted old new (Err f)
-    passed_stop wanted f stopped = record {
+    pub passed_stop : (f : SyncFault) → Stopped library may f mid new → UploadsSo library wanted old new (Err f)
+    passed_stop f stopped = record {
       more = passed.more ++ stopped.more;
       grown = stopped.grown ∙ ap (λ (sends : List Sent). sends ++ stopped.more) passed.grown ∙ append_assoc old passed.more stopped.more;
-      puts = passed.puts stopped.more (lacked_stops library may f passed.more stopped.more wider stopped.stops);
-      ends = stops_more library any_key f passed.more stopped.more passed.went (stops_wide library may any_key all_may f stopped.more stopped.stops);
+      puts = passed.puts stopped.more (lacked_stops library may f passed.more stopped.more told stopped.stops);
+      ends = stops_more library (OfWanted wanted) f passed.more stopped.more passed.went (stops_wide library may (OfWanted wanted) of f stopped.more stopped.stops);
     }
 
-  pub first_stop : (wanted : Wanted) (old new : List Sent) (f : SyncFault) → Stopped library may f old new → ((key : Key) → may key ≡ true → is_in (keys_lacked []) key ≡ true)
-      → UploadsSo library wanted old new (Err f)
-  first_stop wanted old new f stopped wider = record {
+  pub first_stop : (old new : List Sent) (f : SyncFault) → Stopped library may f old new → ((asked : What) → may asked → PutsTold [] asked) → UploadsSo library wanted old new (Err f)
+  first_stop old new f stopped told = record {
     more = stopped.more;
     grown = stopped.grown;
-    puts = lacked_stops library may f [] stopped.more wider stopped.stops;
-    ends = stops_wide library may any_key all_may f stopped.more stopped.stops;
+    puts = lacked_stops library may f [] stopped.more told stopped.stops;
+    ends = stops_wide library may (OfWanted wanted) of f stopped.more stopped.stops;
   }
 
 -- what is noted in an empty table is what was told to lack

@@ -22,6 +22,7 @@ use Rattle.sync_rules.specs.Orders.{IsRowNamed, most_asked}
 pub use Rattle.sync_rules.specs.Orders.{IsSmall, most_bytes}
 use Rattle.sync_rules.specs.declared.fault.SyncFault.{SyncFault}
 use Rattle.sync_rules.specs.declared.fault.SyncFault.TheVariants as fault
+use Rattle.tree_push.specs.Wanted.{IsIn}
 use Rattle.tree_push.specs.declared.asking.Library.{Library}
 
 -- ---- one order
@@ -86,23 +87,30 @@ IsUploadWhat (what.Put key bytes) = (is_block key.kind ≡ true) × (sha1 bytes 
 IsUploadWhat (what.PutFs rows) = All IsRowNamed rows × IsSmall rows
 IsUploadWhat _ = ⊥
 
--- all that an order puts is such that it may be
-abbrev pub PutsOf : (may : Key → Bool) → What → Type 0
-PutsOf may asked = AllByRecursion (λ (key : Key). may key ≡ true) (put_by asked)
+-- a block alone, or files and directories together
+abbrev pub is_put : What → Bool
+is_put (what.Put key bytes) = is_block key.kind
+is_put (what.PutFs rows) = true
+is_put _ = false
 
--- nothing may be put
-abbrev pub no_key : Key → Bool
-no_key key = false
+-- what an order may be: blocks, or files and directories, are put, each of which may be
+abbrev pub PutsAmong : (may : Key → Bool) → What → Type 0
+PutsAmong may asked = (is_put asked ≡ true) × AllByRecursion (λ (key : Key). may key ≡ true) (put_by asked)
+
+-- or it is asked which of some ids name nothing, each of which is one of these
+abbrev pub AsksAmong : Kind → (ids : List (List ℕ)) → What → Type 0
+AsksAmong kind ids (what.Missing asked others) = (asked ≡ kind) × AllByRecursion (λ (id : List ℕ). IsIn id ids) others
+AsksAmong kind ids _ = ⊥
 
 abbrev pub is_refused : Reply → Bool
 is_refused (reply.Refused why) = true
 is_refused _ = false
 
 -- a send that went well
-pub record IsSend (library : Library) (may : Key → Bool) (sent : Sent) : Type 0 where
+pub record IsSend (library : Library) (may : What → Type 0) (sent : Sent) : Type 0 where
   pub order : sent.0 ≡ order_for library sent.0.what
   pub uploads : IsUploadWhat sent.0.what
-  pub puts : PutsOf may sent.0.what
+  pub among : may sent.0.what
   pub told : Reply
   pub replied : Replies sent.1 told
   pub well : is_refused told ≡ false
@@ -114,10 +122,10 @@ EndsBy asked ending (fault.Refused why) = Replies ending (reply.Refused why) × 
 EndsBy asked ending _ = ⊥
 
 -- the send that told it
-pub record IsEnd (library : Library) (may : Key → Bool) (f : SyncFault) (sent : Sent) : Type 0 where
+pub record IsEnd (library : Library) (may : What → Type 0) (f : SyncFault) (sent : Sent) : Type 0 where
   pub order : sent.0 ≡ order_for library sent.0.what
   pub uploads : IsUploadWhat sent.0.what
-  pub puts : PutsOf may sent.0.what
+  pub among : may sent.0.what
   pub ends : EndsBy sent.0.what sent.1 f
 
 -- a fault that no send tells: of the folder, of what stands in it, and want of memory
@@ -128,24 +136,24 @@ is_own fault.NoMemory = true
 is_own _ = false
 
 -- each send went well, until one told the fault, or it came without one
-abbrev pub Stops : Library → (may : Key → Bool) → SyncFault → List Sent → Type 0
+abbrev pub Stops : Library → (may : What → Type 0) → SyncFault → List Sent → Type 0
 Stops library may f [] = is_own f ≡ true
 Stops library may f (sent ∷ more) = (IsSend library may sent × Stops library may f more) ⊎ (IsEnd library may f sent × (more ≡ []))
 
--- sends that went well and put nothing but what may be, and of which this holds
-pub record Ran (library : Library) (may : Key → Bool) (wanted : List Sent → Type 0) (old new : List Sent) : Type 0 where
+-- sends that went well and are such as they may be, and of which this holds
+pub record Ran (library : Library) (may : What → Type 0) (wanted : List Sent → Type 0) (old new : List Sent) : Type 0 where
   pub more : List Sent
   pub grown : new ≡ old ++ more
   pub went : AllByRecursion (IsSend library may) more
   pub are : wanted more
 
 -- sends until a fault
-pub record Stopped (library : Library) (may : Key → Bool) (f : SyncFault) (old new : List Sent) : Type 0 where
+pub record Stopped (library : Library) (may : What → Type 0) (f : SyncFault) (old new : List Sent) : Type 0 where
   pub more : List Sent
   pub grown : new ≡ old ++ more
   pub stops : Stops library may f more
 
-abbrev pub Went : {T : Type 0} → Library → (may : Key → Bool) → (List Sent → Type 0) → List Sent → List Sent → Result T SyncFault → Type 0
+abbrev pub Went : {T : Type 0} → Library → (may : What → Type 0) → (List Sent → Type 0) → List Sent → List Sent → Result T SyncFault → Type 0
 Went library may wanted old new (Ok x) = Ran library may wanted old new
 Went library may wanted old new (Err f) = Stopped library may f old new
 
@@ -186,12 +194,6 @@ AsksIds library kind ids (sent ∷ more) =
     (first : List (List ℕ)) × (rest : List (List ℕ)) × (ids ≡ first ++ rest) × AsksList library kind first sent × AsksIds library kind rest more
 
 -- ---- what is put
-
--- a block alone, or files and directories together
-abbrev pub is_put : What → Bool
-is_put (what.Put key bytes) = is_block key.kind
-is_put (what.PutFs rows) = true
-is_put _ = false
 
 abbrev pub ArePuts : List Sent → Type 0
 ArePuts = AllByRecursion (λ sent. is_put sent.0.what ≡ true)

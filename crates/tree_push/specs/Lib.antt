@@ -3,6 +3,7 @@ pub mod ChangedOwns
 pub mod OfferedNames
 pub mod Asking
 pub mod Lacking
+pub mod SentOnce
 pub mod Puts
 pub mod Standing
 pub mod Wanted

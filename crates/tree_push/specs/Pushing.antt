@@ -1,5 +1,5 @@
 -- What the push of one round sends, and what comes of it. Our own. Read PushesSo, at the end, then OffersOnce, StandAsSeen and HoldsOffer.
-use Rattle.std.specs.Prelude.{ℕ, ◌≡◌, Bool, true, false, All, List, [], ◌∷◌, ◌++◌, Option, None, Some, option_and_then, option_map, Result, Ok, Err, IfErr, ⊤}
+use Rattle.std.specs.Prelude.{ℕ, ◌≡◌, Bool, true, false, All, List, [], ◌∷◌, ◌++◌, Option, None, Some, option_and_then, option_map, Result, Ok, Err, IfErr, ⊤, ◌⊎◌, IsSome}
 use Rattle.std.specs.FinMap as fin
 use Rattle.ids.specs.Key.{Objects}
 use Rattle.ids.specs.declared.key.Key.{Key}
@@ -12,7 +12,8 @@ use Rattle.folder_side.specs.declared.scan_report.Scan.{Scan}
 use Rattle.folder_side.specs.declared.scan_report.Seen.TheVariants as seen
 use Rattle.local_index.specs.OwnIds.{own_id}
 use Rattle.local_index.specs.declared.index.Index.{Index}
-use Rattle.object_graph.specs.Objects.{commit_key, entry_below}
+use Rattle.object_graph.specs.Objects.{block_key, commit_key, entry_below}
+use Rattle.object_graph.specs.Traversal.{is_in}
 use Rattle.object_graph.specs.Unchanged.{Keeps}
 use Rattle.http_front.specs.declared.order.Order.{Order}
 use Rattle.http_front.specs.declared.order.What.TheVariants as what
@@ -22,7 +23,7 @@ use Rattle.library_state.specs.declared.reply.Reply.TheVariants as reply
 use Rattle.library_state.specs.declared.tag.Tag.{Tag}
 use Rattle.remote_calls.specs.Sends.{Ending, Sent}
 use Rattle.sync_rules.specs.Causes.{CausedBy, GoesWell, IsRefusedBy, WentWell, is_of_order, stale_count}
-use Rattle.sync_rules.specs.Named.{AreTextsOf, IsHad, is_upload}
+use Rattle.sync_rules.specs.Named.{AreTextsOf, IsHad, is_upload, keys_lacked, keys_named, keys_put}
 use Rattle.sync_rules.specs.Offer.{IsOffer}
 use Rattle.sync_rules.specs.Orders.{GoesInRounds, IsSyncOrder, MadeSo, PutsLacked}
 use Rattle.sync_rules.specs.Orders.Stage.{Uploads}
@@ -31,7 +32,10 @@ use Rattle.sync_rules.specs.Uploads.{IsUploadOf}
 use Rattle.sync_rules.specs.declared.fault.SyncFault.{SyncFault}
 use Rattle.sync_rules.specs.declared.fault.SyncFault.TheVariants as fault
 use Rattle.tree_push.specs.OfferedEntries.{IsSeenFolder, is_kept, offered_entry}
+use Rattle.tree_push.specs.OfferedTree.{IsMadeOf}
+use Rattle.tree_push.specs.SentOnce.{SendsOnce}
 use Rattle.tree_push.specs.Standing.{IsOwnCommit}
+use Rattle.tree_push.specs.Wanted.{IsIn, IsChangedBlock}
 use Rattle.tree_push.specs.declared.asking.Library.{Library}
 use Rattle.tree_push.specs.declared.standing.Pushed.{Pushed}
 use Rattle.tree_push.specs.declared.standing.Pushed.TheVariants.{Installed, Late}
@@ -82,8 +86,15 @@ pub record HoldsOffer (library : Library) (user : List ℕ) (moment : ℕ) (pare
   pub holds : IsSeenFolder index.entries scan.paths → (objects : Objects) → Keeps texts objects → (path : PathV)
       → entry_below objects path root ≡ option_map (offered_entry moment user (fin.get index.entries path)) (fin.get scan.paths path)
 
+-- each block of a file that is new or changed was asked about or sent, and what the library told to lack was sent
+pub record PutsChanged (index : Index) (scan : Scan) (more : List Sent) : Type 0 where
+  pub blocks : (path : PathV) (names : List (List ℕ)) (size : ℕ) → fin.get scan.paths path ≡ Some (seen.File names size) → is_kept (fin.get index.entries path) (own_id names size) ≡ false
+      → (id : List ℕ) → IsIn id names → is_in (keys_named more) (block_key id) ≡ true
+  pub lacked : (key : Key) → is_in (keys_lacked more) key ≡ true → is_in (keys_put more) key ≡ true
+
+-- where the library took it, all of that was put
 abbrev pub HoldsSo : Library → (user : List ℕ) → (moment : ℕ) → (parent : List ℕ) → Index → Scan → List Sent → Result Pushed SyncFault → Type 0
-HoldsSo library user moment parent index scan more (Ok (Installed commit head)) = HoldsOffer library user moment parent index scan more commit
+HoldsSo library user moment parent index scan more (Ok (Installed commit head)) = HoldsOffer library user moment parent index scan more commit × PutsChanged index scan more
 HoldsSo library user moment parent index scan more (Ok (Late now)) = ⊤
 HoldsSo library user moment parent index scan more (Err f) = ⊤
 
@@ -99,3 +110,25 @@ pub record PushesSo (library : Library) (user : List ℕ) (moment : ℕ) (parent
   pub offers : (c : Contents) → told ≡ Some c → IsFolder c → IsScan cuts c scan → OffersOnce cuts c index user moment parent more
   pub looks : (c : Contents) → told ≡ Some c → LooksTwice cuts c index scan more
   pub no_change : (c : Contents) → told ≡ Some c → IsFolder c → IsScan cuts c scan → IsWithinLimits c → IfErr result (λ f. is_change f ≡ false)
+
+-- ---- what is asked about and sent
+
+-- a key is of what is offered: of an object of the tree with this root, or of a file that is new or changed, of a block of one, or of the
+-- commit of that root
+abbrev pub IsOfOffer : Library → (user : List ℕ) → (moment : ℕ) → (parent : List ℕ) → Index → Scan → (root : List ℕ) → (made : Objects) → Key → Type 0
+IsOfOffer library user moment parent index scan root made key = IsSome (fin.get made key) ⊎ (IsChangedBlock index.entries scan.paths key
+    ⊎ ((id : List ℕ) × (text : List ℕ) × IsOwnCommit library root parent user moment id text × (key ≡ commit_key id)))
+
+-- all that is asked about or sent is, and nothing is asked about twice, nor sent twice. The directories of the tree are among these objects,
+-- each under its SHA-1, and nothing else is but files that are new or changed
+pub record NamesOffered (library : Library) (user : List ℕ) (moment : ℕ) (parent : List ℕ) (index : Index) (scan : Scan) (more : List Sent) : Type 0 where
+  pub root : List ℕ
+  pub made : Objects
+  pub tree : IsSeenFolder index.entries scan.paths → IsMadeOf moment user index.entries scan.paths root made
+  pub each : (key : Key) → is_in (keys_named more) key ≡ true → IsOfOffer library user moment parent index scan root made key
+  pub once : SendsOnce more
+
+-- of all that a push sends, also where it ends early
+abbrev pub NeedsSo : Library → (user : List ℕ) → (moment : ℕ) → (parent : List ℕ) → Index → Scan → (old new : List Sent) → Type 0
+NeedsSo library user moment parent index scan old new =
+    (more : List Sent) × (new ≡ old ++ more) × ((more ≡ []) ⊎ NamesOffered library user moment parent index scan more)

@@ -1,5 +1,5 @@
 -- All that a library lacks of what is wanted is put. Our own. Read UploadsAll and UploadsSo.
-use Rattle.std.specs.Prelude.{ℕ, ◌≡◌, Bool, true, List, [], ◌∷◌, ◌++◌, Some, IsSome, Result, Ok, Err, ⊤, option_and_then}
+use Rattle.std.specs.Prelude.{ℕ, ◌≡◌, true, List, [], ◌∷◌, ◌++◌, Some, IsSome, Result, Ok, Err, ⊤, option_and_then, ◌⊎◌}
 use Rattle.std.specs.FinMap as fin
 use Rattle.std.specs.List.{AllByRecursion}
 use Rattle.ids.specs.declared.key.Key.{Key}
@@ -11,14 +11,16 @@ use Rattle.folder_side.specs.ScanReport.{seen_of}
 use Rattle.folder_side.specs.declared.scan_report.Seen.{Seen}
 use Rattle.folder_side.specs.declared.scan_report.Seen.TheVariants as seen
 use Rattle.object_graph.specs.Traversal.{is_in}
+use Rattle.http_front.specs.declared.order.What.{What}
 use Rattle.remote_calls.specs.Sends.{Sent}
-use Rattle.sync_rules.specs.Named.{keys_lacked, keys_put}
+use Rattle.sync_rules.specs.Named.{keys_lacked, keys_put, Named, named_by}
 use Rattle.sync_rules.specs.Orders.{PutsLacked}
 use Rattle.sync_rules.specs.declared.fault.SyncFault.{SyncFault}
 use Rattle.sync_rules.specs.declared.fault.SyncFault.TheVariants as fault
 use Rattle.tree_push.specs.Asking.{ArePuts, AsksIds, IsOrderFault, IsSend, Stops}
 use Rattle.tree_push.specs.BlockUpload.{StandsThere}
 use Rattle.tree_push.specs.ChangedOwns.{Owns}
+use Rattle.tree_push.specs.Lacking.{has_key}
 use Rattle.tree_push.specs.OfferedEntries.{SeenPaths}
 use Rattle.tree_push.specs.Wanted.{ids_in}
 use Rattle.tree_push.specs.declared.asking.Library.{Library}
@@ -35,15 +37,19 @@ pub record UploadsAll (library : Library) (wanted : Wanted) (more : List Sent) :
   pub puts : ArePuts third
   pub lacked : (key : Key) → is_in (keys_put third) key ≡ is_in (keys_lacked (first ++ second)) key
 
--- anything may be put
-abbrev pub any_key : Key → Bool
-any_key key = true
+-- a key is wanted as an object, or as a block
+abbrev pub IsWantedKey : Wanted → Key → Type 0
+IsWantedKey wanted key = (has_key wanted.made key ≡ true) ⊎ (has_key wanted.blocks key ≡ true)
+
+-- all that an order puts or asks about is wanted
+abbrev pub OfWanted : Wanted → What → Type 0
+OfWanted wanted asked = AllByRecursion (λ (n : Named). IsWantedKey wanted n.0) (named_by asked)
 
 abbrev pub EndsUpload : Library → Wanted → List Sent → Result ⊤ SyncFault → Type 0
-EndsUpload library wanted more (Ok x) = AllByRecursion (IsSend library any_key) more × UploadsAll library wanted more
-EndsUpload library wanted more (Err f) = Stops library any_key f more
+EndsUpload library wanted more (Ok x) = AllByRecursion (IsSend library (OfWanted wanted)) more × UploadsAll library wanted more
+EndsUpload library wanted more (Err f) = Stops library (OfWanted wanted) f more
 
--- at no time is anything put that the library wasn't told to lack
+-- at no time is anything put that the library wasn't told to lack, nor asked about or put that isn't wanted
 pub record UploadsSo (library : Library) (wanted : Wanted) (old new : List Sent) (result : Result ⊤ SyncFault) : Type 0 where
   pub more : List Sent
   pub grown : new ≡ old ++ more

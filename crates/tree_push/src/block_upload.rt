@@ -6,13 +6,15 @@ ghost use Rattle.ids.specs.FaultCount.{FailsBy};
 ghost use Rattle.sha1.specs.Sha1.{sha1};
 ghost use Rattle.block_chunker.specs.ChunkBoundaries.{last_chunk};
 ghost use Rattle.block_chunker.specs.ChunkerProgress.{after_piece, finished_by};
+ghost use Rattle.folder_side.specs.Calls.{Glances};
 ghost use Rattle.folder_side.specs.Folder.{Contents, IsPart, PartAt, at};
 ghost use Rattle.folder_side.specs.ScanReport.{block_names};
 ghost use Rattle.folder_side.specs.declared.holding.Holding.TheVariants.{File};
 ghost use Rattle.folder_side.specs.declared.scan_report.Seen.TheVariants as seen;
 ghost use Rattle.sync_rules.specs.Causes.{is_folder_fault};
-ghost use Rattle.tree_push.specs.Asking.{IsOrderFault, Went};
+ghost use Rattle.tree_push.specs.Asking.{IsOrderFault, Went, PutsAmong};
 ghost use Rattle.tree_push.specs.Lacking.{has_key};
+ghost use Rattle.tree_push.specs.SentOnce.{TakesOnce};
 ghost use Rattle.tree_push.specs.BlockUpload.{IsChange, IsFileFault, IsPutFault, IsReadFault, NotChanged, PutsOff, StandsThere, folder_fault};
 
 use crate::asking::Library;
@@ -44,11 +46,13 @@ pub fn put_blocks<F: Folder, R: Remote>(
     lacking: &mut KeyTable<()>,
 ) -> Result<(), SyncFault>
     requires some { 0 < length buffer.old }
-    ensures value { Went library.now (has_key lacking.old) (PutsOff blocks.now lacking.old lacking.new) (R.sends remote.old) (R.sends remote.new) result }
+    ensures value { Went library.now (PutsAmong (has_key lacking.old)) (PutsOff blocks.now lacking.old lacking.new) (R.sends remote.old) (R.sends remote.new) result }
+    ensures once { TakesOnce lacking.old lacking.new (R.sends remote.old) (R.sends remote.new) }
     ensures same { (c : Contents) → F.told folder.old ≡ Some c → OnOk result (StandsThere cuts c path.now (seen.File blocks.now size)) }
     ensures cause { (c : Contents) (bytes : List ℕ) → F.told folder.old ≡ Some c → at c path.now ≡ Some (File bytes) → blocks.now ≡ block_names cuts bytes
         → size ≡ length bytes → NotChanged result }
     ensures stays { (F.told folder.new ≡ F.told folder.old) × (F.spare folder.new ≡ F.spare folder.old) × (R.peer remote.new ≡ R.peer remote.old) }
+    ensures traced { Glances (F.trace folder.old) (F.trace folder.new) }
     ensures faults { FailsBy is_folder_fault (F.faults folder.old) (F.faults folder.new) result }
     ensures bad { IfErr result (IsReadFault path.now) }
 {
@@ -83,7 +87,8 @@ pub fn put_blocks<F: Folder, R: Remote>(
     put_last(alloc, remote, library, path, chunker, left, lacking)
 }
 
-/// Reads bytes of a file from a place on: 1 to `most`, of which it has had at least one. Where it has more, it was changed.
+/// Reads bytes of a file from a place on: 1 to `most`, of which it has had at least one. Where it has more, or is gone before its
+/// start is read, it was changed.
 fn read_piece<F: Folder>(
     alloc: Global,
     folder: &mut F,
@@ -99,6 +104,51 @@ fn read_piece<F: Folder>(
         → IfOk result (λ count. IsPart bytes place count buffer.new) }
     ensures cause { (c : Contents) (bytes : List ℕ) → F.told folder.old ≡ Some c → at c path.now ≡ Some (File bytes) → most ≡ length (drop place bytes) → NotChanged result }
     ensures stays { (F.told folder.new ≡ F.told folder.old) × (F.spare folder.new ≡ F.spare folder.old) }
+    ensures traced { Glances (F.trace folder.old) (F.trace folder.new) }
+    ensures faults { FailsBy is_folder_fault (F.faults folder.old) (F.faults folder.new) result }
+    ensures bad { IfErr result (IsFileFault path.now) }
+{
+    if place > 0 {
+        return read_on(alloc, folder, path, place, most, buffer);
+    }
+    match open(alloc, folder, path) {
+        Ok(()) => read_on(alloc, folder, path, place, most, buffer),
+        Err(fault) => Err(fault),
+    }
+}
+
+/// Opens a file to read it. Where it is gone, it was changed.
+fn open<F: Folder>(alloc: Global, folder: &mut F, path: &Path) -> Result<(), SyncFault>
+    ensures cause { (c : Contents) (bytes : List ℕ) → F.told folder.old ≡ Some c → at c path.now ≡ Some (File bytes) → NotChanged result }
+    ensures stays { (F.told folder.new ≡ F.told folder.old) × (F.spare folder.new ≡ F.spare folder.old) }
+    ensures traced { Glances (F.trace folder.old) (F.trace folder.new) }
+    ensures faults { FailsBy is_folder_fault (F.faults folder.old) (F.faults folder.new) result }
+    ensures bad { IfErr result (IsFileFault path.now) }
+{
+    match folder.open_file(path) {
+        Ok(true) => Ok(()),
+        Ok(false) => Err(changed(alloc, path)),
+        Err(fault) => Err(folder_fault(fault)),
+    }
+}
+
+/// Reads bytes of a file that is open.
+fn read_on<F: Folder>(
+    alloc: Global,
+    folder: &mut F,
+    path: &Path,
+    place: u64,
+    most: u64,
+    buffer: &mut [u8],
+) -> Result<usize, SyncFault>
+    requires some { 0 < length buffer.old }
+    requires left { 0 < most }
+    ensures bound { IfOk result (λ count. (0 < count) × (count ≤ length buffer.new) × (count ≤ most)) }
+    ensures ok { (c : Contents) (bytes : List ℕ) → F.told folder.old ≡ Some c → at c path.now ≡ Some (File bytes)
+        → IfOk result (λ count. IsPart bytes place count buffer.new) }
+    ensures cause { (c : Contents) (bytes : List ℕ) → F.told folder.old ≡ Some c → at c path.now ≡ Some (File bytes) → most ≡ length (drop place bytes) → NotChanged result }
+    ensures stays { (F.told folder.new ≡ F.told folder.old) × (F.spare folder.new ≡ F.spare folder.old) }
+    ensures traced { Glances (F.trace folder.old) (F.trace folder.new) }
     ensures faults { FailsBy is_folder_fault (F.faults folder.old) (F.faults folder.new) result }
     ensures bad { IfErr result (IsFileFault path.now) }
 {
@@ -124,6 +174,7 @@ fn meet_end<F: Folder>(
     ensures ok { (c : Contents) → F.told folder.old ≡ Some c → OnOk result (PartAt (at c path.now) place 0 buffer.new) }
     ensures cause { (c : Contents) (bytes : List ℕ) → F.told folder.old ≡ Some c → at c path.now ≡ Some (File bytes) → place ≡ length bytes → NotChanged result }
     ensures stays { (F.told folder.new ≡ F.told folder.old) × (F.spare folder.new ≡ F.spare folder.old) }
+    ensures traced { Glances (F.trace folder.old) (F.trace folder.new) }
     ensures faults { FailsBy is_folder_fault (F.faults folder.old) (F.faults folder.new) result }
     ensures bad { IfErr result (IsFileFault path.now) }
 {
@@ -146,7 +197,8 @@ fn put_piece<'a, R: Remote>(
     left: &'a [ObjId],
     lacking: &mut KeyTable<()>,
 ) -> Result<&'a [ObjId], SyncFault>
-    ensures value { Went library.now (has_key lacking.old) (PutsOff (list_map sha1 (finished_by chunker.old piece.now)) lacking.old lacking.new) (R.sends remote.old) (R.sends remote.new) result }
+    ensures value { Went library.now (PutsAmong (has_key lacking.old)) (PutsOff (list_map sha1 (finished_by chunker.old piece.now)) lacking.old lacking.new) (R.sends remote.old) (R.sends remote.new) result }
+    ensures once { TakesOnce lacking.old lacking.new (R.sends remote.old) (R.sends remote.new) }
     ensures ok { OnOk result (chunker.new ≡ after_piece chunker.old piece.now) }
     ensures rest { IfOk result (λ rest. left.now ≡ list_map sha1 (finished_by chunker.old piece.now) ++ rest.now) }
     ensures cause { (rest : List (List ℕ)) → left.now ≡ list_map sha1 (finished_by chunker.old piece.now) ++ rest → NotChanged result }
@@ -171,7 +223,8 @@ fn put_chunks<'a, R: Remote>(
     left: &'a [ObjId],
     lacking: &mut KeyTable<()>,
 ) -> Result<&'a [ObjId], SyncFault>
-    ensures value { Went library.now (has_key lacking.old) (PutsOff (list_map sha1 chunks) lacking.old lacking.new) (R.sends remote.old) (R.sends remote.new) result }
+    ensures value { Went library.now (PutsAmong (has_key lacking.old)) (PutsOff (list_map sha1 chunks) lacking.old lacking.new) (R.sends remote.old) (R.sends remote.new) result }
+    ensures once { TakesOnce lacking.old lacking.new (R.sends remote.old) (R.sends remote.new) }
     ensures rest { IfOk result (λ rest. left.now ≡ list_map sha1 chunks ++ rest.now) }
     ensures cause { (rest : List (List ℕ)) → left.now ≡ list_map sha1 chunks ++ rest → NotChanged result }
     ensures faults { IfErr result (IsPutFault path.now) }
@@ -200,7 +253,8 @@ fn put_last<R: Remote>(
     lacking: &mut KeyTable<()>,
 ) -> Result<(), SyncFault>
     requires ready { chunker.failed ≡ false }
-    ensures value { Went library.now (has_key lacking.old) (PutsOff left.now lacking.old lacking.new) (R.sends remote.old) (R.sends remote.new) result }
+    ensures value { Went library.now (PutsAmong (has_key lacking.old)) (PutsOff left.now lacking.old lacking.new) (R.sends remote.old) (R.sends remote.new) result }
+    ensures once { TakesOnce lacking.old lacking.new (R.sends remote.old) (R.sends remote.new) }
     ensures rest { OnOk result (left.now ≡ list_map sha1 (last_chunk chunker.begun)) }
     ensures cause { left.now ≡ list_map sha1 (last_chunk chunker.begun) → NotChanged result }
     ensures faults { IfErr result (IsPutFault path.now) }
@@ -230,7 +284,8 @@ fn put_if<'a, R: Remote>(
     left: &'a [ObjId],
     lacking: &mut KeyTable<()>,
 ) -> Result<&'a [ObjId], SyncFault>
-    ensures value { Went library.now (has_key lacking.old) (PutsOff (list_map sha1 (option_to_list chunk)) lacking.old lacking.new) (R.sends remote.old) (R.sends remote.new) result }
+    ensures value { Went library.now (PutsAmong (has_key lacking.old)) (PutsOff (list_map sha1 (option_to_list chunk)) lacking.old lacking.new) (R.sends remote.old) (R.sends remote.new) result }
+    ensures once { TakesOnce lacking.old lacking.new (R.sends remote.old) (R.sends remote.new) }
     ensures rest { IfOk result (λ rest. left.now ≡ list_map sha1 (option_to_list chunk) ++ rest.now) }
     ensures cause { (rest : List (List ℕ)) → left.now ≡ list_map sha1 (option_to_list chunk) ++ rest → NotChanged result }
     ensures faults { IfErr result (IsPutFault path.now) }
@@ -252,7 +307,8 @@ fn put_chunk<'a, R: Remote>(
     left: &'a [ObjId],
     lacking: &mut KeyTable<()>,
 ) -> Result<&'a [ObjId], SyncFault>
-    ensures value { Went library.now (has_key lacking.old) (PutsOff (sha1 chunk ∷ []) lacking.old lacking.new) (R.sends remote.old) (R.sends remote.new) result }
+    ensures value { Went library.now (PutsAmong (has_key lacking.old)) (PutsOff (sha1 chunk ∷ []) lacking.old lacking.new) (R.sends remote.old) (R.sends remote.new) result }
+    ensures once { TakesOnce lacking.old lacking.new (R.sends remote.old) (R.sends remote.new) }
     ensures rest { IfOk result (λ rest. left.now ≡ sha1 chunk ∷ rest.now) }
     ensures cause { (rest : List (List ℕ)) → left.now ≡ sha1 chunk ∷ rest → NotChanged result }
     ensures faults { IfErr result (IsPutFault path.now) }
@@ -295,7 +351,8 @@ fn put_lacking<R: Remote>(
     lacking: &mut KeyTable<()>,
 ) -> Result<(), SyncFault>
     requires named { sha1 chunk ≡ id }
-    ensures value { Went library.now (has_key lacking.old) (PutsOff (id ∷ []) lacking.old lacking.new) (R.sends remote.old) (R.sends remote.new) result }
+    ensures value { Went library.now (PutsAmong (has_key lacking.old)) (PutsOff (id ∷ []) lacking.old lacking.new) (R.sends remote.old) (R.sends remote.new) result }
+    ensures once { TakesOnce lacking.old lacking.new (R.sends remote.old) (R.sends remote.new) }
     ensures faults { IfErr result IsOrderFault }
     ensures stays { R.peer remote.new ≡ R.peer remote.old }
 {

@@ -1,10 +1,11 @@
 //! What the library lacks.
-ghost use Rattle.std.specs.Prelude.{◌≡◌, ◌≤◌, IfErr, IfOk, length, true};
+ghost use Rattle.std.specs.Prelude.{◌≡◌, ◌≤◌, [], IfErr, IfOk, length, map as list_map, true};
 ghost use Rattle.std.specs.FinMap as map;
 ghost use Rattle.folder_side.specs.declared.folder.Ahead.TheVariants.{Blocks};
 ghost use Rattle.sync_rules.specs.Orders.{most_asked};
-ghost use Rattle.tree_push.specs.Asking.{IsAbsentReply, IsOrderFault, Went, is_listed, no_key};
+ghost use Rattle.tree_push.specs.Asking.{AsksAmong, IsAbsentReply, IsOrderFault, Went, is_listed, key_of};
 ghost use Rattle.tree_push.specs.Lacking.{AsksNoting, NotesIds, NotesSo};
+ghost use Rattle.tree_push.specs.SentOnce.{SendsFront};
 ghost use Rattle.tree_push.specs.Wanted.{ids_in};
 
 use crate::asking::{Library, ask};
@@ -31,7 +32,8 @@ pub fn ask_lacking<R: Remote>(
     lacking: &mut KeyTable<()>,
 ) -> Result<(), SyncFault>
     requires listed { is_listed kind ≡ true }
-    ensures value { Went library.now no_key (AsksNoting library.now kind ids.now lacking.old lacking.new) (R.sends remote.old) (R.sends remote.new) result }
+    ensures value { Went library.now (AsksAmong kind ids.now) (AsksNoting library.now kind ids.now lacking.old lacking.new) (R.sends remote.old) (R.sends remote.new) result }
+    ensures once { SendsFront (list_map (key_of kind) ids.now) [] (R.sends remote.old) (R.sends remote.new) }
     ensures faults { IfErr result IsOrderFault }
     ensures stays { R.peer remote.new ≡ R.peer remote.old }
 {
@@ -59,7 +61,8 @@ fn ask_list<R: Remote>(
 ) -> Result<(), SyncFault>
     requires listed { is_listed kind ≡ true }
     requires few { length ids.now ≤ most_asked }
-    ensures value { Went library.now no_key (AsksNoting library.now kind ids.now lacking.old lacking.new) (R.sends remote.old) (R.sends remote.new) result }
+    ensures value { Went library.now (AsksAmong kind ids.now) (AsksNoting library.now kind ids.now lacking.old lacking.new) (R.sends remote.old) (R.sends remote.new) result }
+    ensures once { SendsFront (list_map (key_of kind) ids.now) [] (R.sends remote.old) (R.sends remote.new) }
     ensures faults { IfErr result IsOrderFault }
     ensures stays { R.peer remote.new ≡ R.peer remote.old }
 {

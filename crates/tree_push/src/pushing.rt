@@ -1,11 +1,12 @@
 //! The push of one round.
 ghost use Rattle.std.specs.Prelude.{◌≡◌, ◌≢◌, ◌<◌, ◌++◌, IfOk, List, vec_len};
+ghost use Rattle.folder_side.specs.Calls.{Glances};
 ghost use Rattle.ids.specs.FaultCount.{FailsBy};
 ghost use Rattle.ids.specs.ObjectId.{nil};
 ghost use Rattle.remote_calls.specs.Sends.{Sent};
 ghost use Rattle.sync_rules.specs.Causes.{is_folder_fault};
 ghost use Rattle.tree_push.specs.ChangedOwns.{AreChangedOwns};
-ghost use Rattle.tree_push.specs.Pushing.{PushesSo};
+ghost use Rattle.tree_push.specs.Pushing.{PushesSo, NeedsSo};
 
 use crate::asking::Library;
 use crate::offering::offer;
@@ -48,7 +49,9 @@ pub fn push<F: Folder, R: Remote>(
     requires library { library.now.lib ≡ index.now.lib }
     requires ids { AreChangedOwns index.now.entries scan.now.paths owns.now }
     ensures value { (more : List Sent) × (R.sends remote.new ≡ R.sends remote.old ++ more) × PushesSo library.now user.now moment parent (F.told folder.old) cuts index.now scan.now more result }
+    ensures needed { NeedsSo library.now user.now moment parent index.now scan.now (R.sends remote.old) (R.sends remote.new) }
     ensures stays { (F.told folder.new ≡ F.told folder.old) × (R.peer remote.new ≡ R.peer remote.old) × (F.spare folder.new ≡ F.spare folder.old) }
+    ensures traced { Glances (F.trace folder.old) (F.trace folder.new) }
     ensures faults { FailsBy is_folder_fault (F.faults folder.old) (F.faults folder.new) result }
 {
     let offered = match offer(alloc, &scan.paths, &index.entries, owns, moment, user) {

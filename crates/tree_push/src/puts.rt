@@ -1,9 +1,12 @@
 //! What is put into the library.
 ghost use Rattle.std.specs.Prelude.{◌≡◌, ◌+◌, ◌-◌, ◌^◌, ◌++◌, ◌∷◌, [], IfErr, OnOk, length, min, true};
+ghost use Rattle.std.specs.FinMap as map;
+ghost use Rattle.std.specs.List.{filter};
 ghost use Rattle.sha1.specs.Sha1.{sha1};
-ghost use Rattle.tree_push.specs.Asking.{IsFree, IsOrderFault, IsStoredReply, IsUploadWhat, StoresSo, Went, is_asked, is_put};
+ghost use Rattle.tree_push.specs.Asking.{IsFree, IsOrderFault, IsStoredReply, IsUploadWhat, StoresSo, Went, is_asked, is_put, PutsAmong};
 ghost use Rattle.tree_push.specs.Lacking.{has_key};
 ghost use Rattle.tree_push.specs.Puts.{HasRoom, IsBatch, PutsInto, PutsKeys, PutsMade, PutsSome, row_keys, row_of};
+ghost use Rattle.tree_push.specs.SentOnce.{SendsFront};
 ghost use Rattle.tree_push.specs.Wanted.{AreOwnNamed};
 ghost use Rattle.object_graph.specs.Objects.{block_key};
 ghost use Rattle.object_graph.specs.Traversal.{is_in};
@@ -43,7 +46,8 @@ pub fn put_objects<R: Remote>(
     lacking: &KeyTable<()>,
 ) -> Result<(), SyncFault>
     requires named { AreOwnNamed made.now }
-    ensures value { Went library.now (has_key lacking.now) (PutsMade made.now lacking.now) (R.sends remote.old) (R.sends remote.new) result }
+    ensures value { Went library.now (PutsAmong (has_key lacking.now)) (PutsMade made.now lacking.now) (R.sends remote.old) (R.sends remote.new) result }
+    ensures once { SendsFront [] (filter (has_key made.now) (map.keys lacking.now)) (R.sends remote.old) (R.sends remote.new) }
     ensures faults { IfErr result IsOrderFault }
     ensures stays { R.peer remote.new ≡ R.peer remote.old }
 {
@@ -61,7 +65,7 @@ pub fn put_objects<R: Remote>(
 }
 
 /// Takes an object, if it was made, into the batch; a batch that is full is put before.
-#[tactic(auto, using(crate::proofs::PutsLemmas::put_skipped))]
+#[tactic(auto, using(crate::proofs::PutsLemmas::put_skipped, crate::proofs::SentOnceLemmas::front_none))]
 fn put_object<R: Remote>(
     alloc: Global,
     remote: &mut R,
@@ -72,7 +76,8 @@ fn put_object<R: Remote>(
 ) -> Result<(), SyncFault>
     requires named { AreOwnNamed made.now }
     requires ready { IsBatch batch.old.rows batch.old.size }
-    ensures value { Went library.now (is_in (row_keys batch.old.rows)) (PutsInto made.now (key.now ∷ []) batch.old.rows batch.new.rows) (R.sends remote.old) (R.sends remote.new) result }
+    ensures value { Went library.now (PutsAmong (is_in (row_keys batch.old.rows))) (PutsInto made.now (key.now ∷ []) batch.old.rows batch.new.rows) (R.sends remote.old) (R.sends remote.new) result }
+    ensures once { SendsFront [] (row_keys batch.old.rows) (R.sends remote.old) (R.sends remote.new) }
     ensures after { OnOk result (IsBatch batch.new.rows batch.new.size) }
     ensures faults { IfErr result IsOrderFault }
     ensures stays { R.peer remote.new ≡ R.peer remote.old }
@@ -119,7 +124,7 @@ fn add(batch: &mut Batch, id: ObjId, bytes: Bytes, size: u64) -> Result<(), Sync
 }
 
 /// Puts the batch where a row of so many bytes more would be too many.
-#[tactic(auto, using(crate::proofs::PutsLemmas::put_none, crate::proofs::PutsLemmas::room_left, crate::proofs::PutsLemmas::room_after))]
+#[tactic(auto, using(crate::proofs::PutsLemmas::put_none, crate::proofs::PutsLemmas::room_left, crate::proofs::PutsLemmas::room_after, crate::proofs::SentOnceLemmas::front_none))]
 fn make_room<R: Remote>(
     alloc: Global,
     remote: &mut R,
@@ -128,7 +133,8 @@ fn make_room<R: Remote>(
     batch: &mut Batch,
 ) -> Result<(), SyncFault>
     requires ready { IsBatch batch.old.rows batch.old.size }
-    ensures value { Went library.now (is_in (row_keys batch.old.rows)) (PutsSome batch.old.rows batch.new.rows) (R.sends remote.old) (R.sends remote.new) result }
+    ensures value { Went library.now (PutsAmong (is_in (row_keys batch.old.rows))) (PutsSome batch.old.rows batch.new.rows) (R.sends remote.old) (R.sends remote.new) result }
+    ensures once { SendsFront [] (row_keys batch.old.rows) (R.sends remote.old) (R.sends remote.new) }
     ensures after { OnOk result (IsBatch batch.new.rows batch.new.size) }
     ensures room { OnOk result (HasRoom batch.new.rows batch.new.size size) }
     ensures faults { IfErr result IsOrderFault }
@@ -149,7 +155,8 @@ fn put_batch<R: Remote>(
     batch: &mut Batch,
 ) -> Result<(), SyncFault>
     requires ready { IsBatch batch.old.rows batch.old.size }
-    ensures value { Went library.now (is_in (row_keys batch.old.rows)) (PutsSome batch.old.rows batch.new.rows) (R.sends remote.old) (R.sends remote.new) result }
+    ensures value { Went library.now (PutsAmong (is_in (row_keys batch.old.rows))) (PutsSome batch.old.rows batch.new.rows) (R.sends remote.old) (R.sends remote.new) result }
+    ensures once { SendsFront [] (row_keys batch.old.rows) (R.sends remote.old) (R.sends remote.new) }
     ensures none { batch.new.rows ≡ [] }
     ensures after { IsBatch batch.new.rows batch.new.size }
     ensures faults { IfErr result IsOrderFault }
@@ -172,7 +179,8 @@ pub fn put_block<R: Remote>(
     bytes: Bytes,
 ) -> Result<(), SyncFault>
     requires named { sha1 bytes ≡ id }
-    ensures value { Went library.now (is_in (block_key id ∷ [])) (PutsKeys (block_key id ∷ [])) (R.sends remote.old) (R.sends remote.new) result }
+    ensures value { Went library.now (PutsAmong (is_in (block_key id ∷ []))) (PutsKeys (block_key id ∷ [])) (R.sends remote.old) (R.sends remote.new) result }
+    ensures once { SendsFront [] (block_key id ∷ []) (R.sends remote.old) (R.sends remote.new) }
     ensures faults { IfErr result IsOrderFault }
     ensures stays { R.peer remote.new ≡ R.peer remote.old }
 {
@@ -193,7 +201,8 @@ fn put<R: Remote>(
     requires asked { is_asked what ≡ true }
     requires ready { is_put what ≡ true }
     requires named { IsUploadWhat what }
-    ensures value { Went library.now (is_in (put_by what)) (PutsKeys (put_by what)) (R.sends remote.old) (R.sends remote.new) result }
+    ensures value { Went library.now (PutsAmong (is_in (put_by what))) (PutsKeys (put_by what)) (R.sends remote.old) (R.sends remote.new) result }
+    ensures once { SendsFront [] (put_by what) (R.sends remote.old) (R.sends remote.new) }
     ensures faults { IfErr result IsOrderFault }
     ensures stays { R.peer remote.new ≡ R.peer remote.old }
 {

@@ -1,17 +1,20 @@
 //! All that a library lacks of what is offered, put.
-ghost use Rattle.std.specs.Prelude.{◌≡◌, ◌<◌, ◌||◌, Some, IfErr, OnOk, length, option_and_then, true};
+ghost use Rattle.std.specs.Prelude.{◌≡◌, ◌<◌, ◌||◌, [], Some, IfErr, OnOk, length, map as list_map, option_and_then, true};
 ghost use Rattle.std.specs.FinMap as map;
 ghost use Rattle.std.specs.List.{list_any};
 ghost use Rattle.ids.specs.FaultCount.{FailsBy};
 ghost use Rattle.ids.specs.declared.key.Kind.TheVariants as kind;
+ghost use Rattle.folder_side.specs.Calls.{Glances};
 ghost use Rattle.folder_side.specs.Folder.{Contents, at};
 ghost use Rattle.folder_side.specs.ScanReport.{seen_of};
 ghost use Rattle.folder_side.specs.declared.scan_report.Seen.TheVariants as seen;
 ghost use Rattle.object_graph.specs.Objects.{block_key};
 ghost use Rattle.sync_rules.specs.Causes.{is_folder_fault};
-ghost use Rattle.tree_push.specs.Asking.{IsOrderFault, Went, is_listed, no_key};
+ghost use Rattle.sync_rules.specs.Named.{is_of_tree};
+ghost use Rattle.tree_push.specs.Asking.{AsksAmong, IsOrderFault, PutsAmong, Went, is_listed, key_of};
 ghost use Rattle.tree_push.specs.BlockUpload.{NotChanged, PutsOff, StandsThere};
 ghost use Rattle.tree_push.specs.Lacking.{AsksNoting, has_key};
+ghost use Rattle.tree_push.specs.SentOnce.{GrowsOnce, SendsFront, TakesOnce};
 ghost use Rattle.tree_push.specs.Upload.{IsUploadFault, OwnedStand, SeesFolder, UploadsSo, blocks_in, blocks_of};
 ghost use Rattle.tree_push.specs.Wanted.{AreOwnNamed, AreSeenBlocks, ids_in};
 
@@ -47,9 +50,11 @@ pub(crate) fn upload<F: Folder, R: Remote>(
     requires named { AreOwnNamed wanted.now.made }
     requires seen { AreSeenBlocks paths.now wanted.now }
     ensures value { UploadsSo library.now wanted.now (R.sends remote.old) (R.sends remote.new) result }
+    ensures once { GrowsOnce is_of_tree is_of_tree (R.sends remote.old) (R.sends remote.new) }
     ensures same { (c : Contents) → F.told folder.old ≡ Some c → OnOk result (OwnedStand cuts c paths.now owns.now) }
     ensures cause { (c : Contents) → F.told folder.old ≡ Some c → SeesFolder cuts c paths.now → NotChanged result }
     ensures stays { (F.told folder.new ≡ F.told folder.old) × (F.spare folder.new ≡ F.spare folder.old) × (R.peer remote.new ≡ R.peer remote.old) }
+    ensures traced { Glances (F.trace folder.old) (F.trace folder.new) }
     ensures faults { FailsBy is_folder_fault (F.faults folder.old) (F.faults folder.new) result }
     ensures bad { IfErr result IsUploadFault }
 {
@@ -89,7 +94,8 @@ fn ask_objects<R: Remote>(
     wanted: &Wanted,
     lacking: &mut KeyTable<()>,
 ) -> Result<(), SyncFault>
-    ensures value { Went library.now no_key (AsksNoting library.now kind.Fs (ids_in (map.entries wanted.now.made)) lacking.old lacking.new) (R.sends remote.old) (R.sends remote.new) result }
+    ensures value { Went library.now (AsksAmong kind.Fs (ids_in (map.entries wanted.now.made))) (AsksNoting library.now kind.Fs (ids_in (map.entries wanted.now.made)) lacking.old lacking.new) (R.sends remote.old) (R.sends remote.new) result }
+    ensures once { SendsFront (list_map (key_of kind.Fs) (ids_in (map.entries wanted.now.made))) [] (R.sends remote.old) (R.sends remote.new) }
     ensures faults { IfErr result IsOrderFault }
     ensures stays { R.peer remote.new ≡ R.peer remote.old }
 {
@@ -104,7 +110,8 @@ fn ask_blocks<R: Remote>(
     wanted: &Wanted,
     lacking: &mut KeyTable<()>,
 ) -> Result<(), SyncFault>
-    ensures value { Went library.now no_key (AsksNoting library.now kind.Block (ids_in (map.entries wanted.now.blocks)) lacking.old lacking.new) (R.sends remote.old) (R.sends remote.new) result }
+    ensures value { Went library.now (AsksAmong kind.Block (ids_in (map.entries wanted.now.blocks))) (AsksNoting library.now kind.Block (ids_in (map.entries wanted.now.blocks)) lacking.old lacking.new) (R.sends remote.old) (R.sends remote.new) result }
+    ensures once { SendsFront (list_map (key_of kind.Block) (ids_in (map.entries wanted.now.blocks))) [] (R.sends remote.old) (R.sends remote.new) }
     ensures faults { IfErr result IsOrderFault }
     ensures stays { R.peer remote.new ≡ R.peer remote.old }
 {
@@ -121,7 +128,8 @@ fn ask_wanted<V, R: Remote>(
     lacking: &mut KeyTable<()>,
 ) -> Result<(), SyncFault>
     requires listed { is_listed kind ≡ true }
-    ensures value { Went library.now no_key (AsksNoting library.now kind (ids_in (map.entries wanted.now)) lacking.old lacking.new) (R.sends remote.old) (R.sends remote.new) result }
+    ensures value { Went library.now (AsksAmong kind (ids_in (map.entries wanted.now))) (AsksNoting library.now kind (ids_in (map.entries wanted.now)) lacking.old lacking.new) (R.sends remote.old) (R.sends remote.new) result }
+    ensures once { SendsFront (list_map (key_of kind) (ids_in (map.entries wanted.now))) [] (R.sends remote.old) (R.sends remote.new) }
     ensures faults { IfErr result IsOrderFault }
     ensures stays { R.peer remote.new ≡ R.peer remote.old }
 {
@@ -145,10 +153,12 @@ fn put_files<F: Folder, R: Remote>(
     lacking: &mut KeyTable<()>,
 ) -> Result<(), SyncFault>
     requires some { 0 < length buffer.old }
-    ensures value { Went library.now (has_key lacking.old) (PutsOff (blocks_in (map.entries paths.now)) lacking.old lacking.new) (R.sends remote.old) (R.sends remote.new) result }
+    ensures value { Went library.now (PutsAmong (has_key lacking.old)) (PutsOff (blocks_in (map.entries paths.now)) lacking.old lacking.new) (R.sends remote.old) (R.sends remote.new) result }
+    ensures once { TakesOnce lacking.old lacking.new (R.sends remote.old) (R.sends remote.new) }
     ensures same { (c : Contents) → F.told folder.old ≡ Some c → OnOk result (OwnedStand cuts c paths.now owns.now) }
     ensures cause { (c : Contents) → F.told folder.old ≡ Some c → SeesFolder cuts c paths.now → NotChanged result }
     ensures stays { (F.told folder.new ≡ F.told folder.old) × (F.spare folder.new ≡ F.spare folder.old) × (R.peer remote.new ≡ R.peer remote.old) }
+    ensures traced { Glances (F.trace folder.old) (F.trace folder.new) }
     ensures faults { FailsBy is_folder_fault (F.faults folder.old) (F.faults folder.new) result }
     ensures bad { IfErr result IsUploadFault }
 {
@@ -178,10 +188,12 @@ fn put_seen<F: Folder, R: Remote>(
     lacking: &mut KeyTable<()>,
 ) -> Result<(), SyncFault>
     requires some { 0 < length buffer.old }
-    ensures value { Went library.now (has_key lacking.old) (PutsOff (blocks_of seen.now) lacking.old lacking.new) (R.sends remote.old) (R.sends remote.new) result }
+    ensures value { Went library.now (PutsAmong (has_key lacking.old)) (PutsOff (blocks_of seen.now) lacking.old lacking.new) (R.sends remote.old) (R.sends remote.new) result }
+    ensures once { TakesOnce lacking.old lacking.new (R.sends remote.old) (R.sends remote.new) }
     ensures same { (c : Contents) → F.told folder.old ≡ Some c → changed ≡ true → OnOk result (StandsThere cuts c path.now seen.now) }
     ensures cause { (c : Contents) → F.told folder.old ≡ Some c → Some seen.now ≡ option_and_then (seen_of cuts) (at c path.now) → NotChanged result }
     ensures stays { (F.told folder.new ≡ F.told folder.old) × (F.spare folder.new ≡ F.spare folder.old) × (R.peer remote.new ≡ R.peer remote.old) }
+    ensures traced { Glances (F.trace folder.old) (F.trace folder.new) }
     ensures faults { FailsBy is_folder_fault (F.faults folder.old) (F.faults folder.new) result }
     ensures bad { IfErr result IsUploadFault }
 {
@@ -217,10 +229,12 @@ fn put_lacking_of<F: Folder, R: Remote>(
     lacking: &mut KeyTable<()>,
 ) -> Result<(), SyncFault>
     requires some { 0 < length buffer.old }
-    ensures value { Went library.now (has_key lacking.old) (PutsOff blocks.now lacking.old lacking.new) (R.sends remote.old) (R.sends remote.new) result }
+    ensures value { Went library.now (PutsAmong (has_key lacking.old)) (PutsOff blocks.now lacking.old lacking.new) (R.sends remote.old) (R.sends remote.new) result }
+    ensures once { TakesOnce lacking.old lacking.new (R.sends remote.old) (R.sends remote.new) }
     ensures same { (c : Contents) → F.told folder.old ≡ Some c → changed ≡ true → OnOk result (StandsThere cuts c path.now (seen.File blocks.now size)) }
     ensures cause { (c : Contents) → F.told folder.old ≡ Some c → Some (seen.File blocks.now size) ≡ option_and_then (seen_of cuts) (at c path.now) → NotChanged result }
     ensures stays { (F.told folder.new ≡ F.told folder.old) × (F.spare folder.new ≡ F.spare folder.old) × (R.peer remote.new ≡ R.peer remote.old) }
+    ensures traced { Glances (F.trace folder.old) (F.trace folder.new) }
     ensures faults { FailsBy is_folder_fault (F.faults folder.old) (F.faults folder.new) result }
     ensures bad { IfErr result IsUploadFault }
 {

@@ -1,7 +1,8 @@
-use Rattle.std.proofs.Common.{◌+◌, ◌-◌, ◌≡◌, ◌≤◌, ℕ, List, Some, false}
+use Rattle.std.proofs.Common.{◌+◌, ◌-◌, ◌≡◌, ◌≤◌, ℕ, List, Some, false, length}
 use Rattle.folder_side.specs.declared.holding.Holding.TheVariants.{File}
 use Rattle.folder_side.specs.Folder.{Contents, at}
 use Rattle.folder_side.specs.FileRead.{IsBehind}
+use Rattle.folder_side.proofs.CallLemmas.{ReadsTo}
 use Rattle.folder_side.proofs.FileReadLemmas.{reading_at}
 use Rattle.folder_side.proofs.file_reader.read_rest.Given as goal
 use Rattle.folder_side.specs.declared.file_reader.TheConstants.{MAX_FILE}
@@ -13,6 +14,8 @@ invariant-loop-place g l = record {
   faults : g.F.Folder.faults l.folder ≡ g.F.Folder.faults l.fn.folder;
   alive : l.chunker.failed ≡ false;
   bound : l.place ≤ 274877972480;
+  traced : (before : List ℕ) → IsBehind l.fn.reading.chunker.cuts before l.fn.reading → l.fn.reading.place ≡ length before
+      → ReadsTo l.fn.reading.chunker.cuts l.file l.fn.reading.place before (g.F.Folder.trace l.fn.folder) (g.F.Folder.trace l.folder) l.chunker l.names l.place;
   behind : (c : Contents) (bytes : List ℕ) → g.F.Folder.told l.fn.folder ≡ Some c → at c l.file ≡ Some (File bytes) → IsBehind l.fn.reading.chunker.cuts bytes l.fn.reading → IsBehind l.fn.reading.chunker.cuts bytes (reading_at l.chunker l.names l.place);
 }
 

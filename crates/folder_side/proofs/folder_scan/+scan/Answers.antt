@@ -1,6 +1,7 @@
 use Rattle.std.proofs.Common.{◌≤◌, ◌∙◌, sym, ap, subst, arith, Some}
 use Rattle.std.specs.FinMap as map
 use Rattle.folder_side.specs.Folder.{at}
+use Rattle.folder_side.proofs.CallLemmas.{glances_same, glances_then}
 use Rattle.folder_side.proofs.ScanStepLemmas.{dir_nameless, dir_items, item_at, Goes-more, Goes-end, kind_other, kind_file, kind_dir, other_is_no_dir, file_is_no_dir, leaf_item, dir_item}
 use Rattle.folder_side.proofs.folder_scan.+scan.Goals as goal
 use Rattle.tree_model.specs.declared.limits.TheConstants.{MAX_PATHS}
@@ -16,6 +17,7 @@ pub scan_dir-loop-item-init : goal.scan_dir-loop-item-init
 scan_dir-loop-item-init g t c = record {
   told = c.in-Ok.ensures.stays.0;
   spare = c.in-Ok.ensures.stays.1;
+  traced = glances_same _ _ c.in-Ok.ensures.traced;
   faults = c.in-Ok.ensures.faults;
   few = subst (λ m. map.len m ≤ MAX_PATHS) (sym c.in-Ok-note_if_nameless.ensures.stays) c.requires.few;
   folder = c.in-Ok.ensures.formed;
@@ -35,6 +37,7 @@ pub scan_dir-loop-item-preserved : goal.scan_dir-loop-item-preserved
 scan_dir-loop-item-preserved g t c = record {
   told = c.in-Ok-scan_item.ensures.stays.0 ∙ c.loop-item.invariant.told;
   spare = c.in-Ok-scan_item.ensures.stays.1 ∙ c.loop-item.invariant.spare;
+  traced = glances_then _ _ _ c.loop-item.invariant.traced c.in-Ok-scan_item.ensures.traced;
   faults = c.in-Ok-scan_item.ensures.faults ∙ c.loop-item.invariant.faults;
   few = c.in-Ok-scan_item.ensures.few;
   folder = c.loop-item.invariant.folder;
@@ -74,3 +77,12 @@ scan_item-returns-in-Ok-note_child-clause-value g t c = λ c' holding told folde
     let taken = c.in-Ok-note_child.ensures.value c.args.cuts c' are here in
     dir_item c.args.cuts c' c.args.found.now c.note_child.new.found c.scan_dir.new.found c.args.dir.now c.args.item.now.name c.in-Ok.path c.in-Ok.ensures.value taken
     c.scan_dir.result (c.scan_dir.ensures.value c' told taken.grows.are_of)
+
+pub scan_dir-returns-in-Err-clause-traced : goal.scan_dir-returns-in-Err-clause-traced
+scan_dir-returns-in-Err-clause-traced g t c = glances_same _ _ c.in-Err.ensures.traced
+
+pub scan_dir-returns-in-Err-note_if_nameless-clause-traced : goal.scan_dir-returns-in-Err-note_if_nameless-clause-traced
+scan_dir-returns-in-Err-note_if_nameless-clause-traced g t c = glances_same _ _ c.in-Ok.ensures.traced
+
+pub scan_dir-returns-in-Err-scan_item-clause-traced : goal.scan_dir-returns-in-Err-scan_item-clause-traced
+scan_dir-returns-in-Err-scan_item-clause-traced g t c = glances_then _ _ _ c.loop-item.invariant.traced c.in-Err-scan_item.ensures.traced

@@ -1,5 +1,6 @@
 use Rattle.std.proofs.Common.{◌≡◌, ◌≤◌, ◌*◌, ◌-◌, suc, Some, length}
 use Rattle.std.specs.FinMap as map
+use Rattle.folder_side.specs.Calls.{Glances}
 use Rattle.folder_side.specs.Folder.{Contents, IsFolder, items_in}
 use Rattle.folder_side.specs.Findings.{AreOf}
 use Rattle.folder_side.proofs.ScanStepLemmas.{Goes}
@@ -16,6 +17,7 @@ abbrev pub invariant-scan_dir-loop-item : goal.invariant-scan_dir-loop-item
 invariant-scan_dir-loop-item g l = record {
   told : g.F.Folder.told l.folder ≡ g.F.Folder.told l.fn.folder;
   spare : g.F.Folder.spare l.folder ≡ g.F.Folder.spare l.fn.folder;
+  traced : Glances (g.F.Folder.trace l.fn.folder) (g.F.Folder.trace l.folder);
   faults : g.F.Folder.faults l.folder ≡ g.F.Folder.faults l.fn.folder;
   few : map.len l.found.paths ≤ MAX_PATHS;
   folder : (c : Contents) → g.F.Folder.told l.fn.folder ≡ Some c → IsFolder c;

@@ -1,5 +1,5 @@
 use Rattle.std.proofs.Common.{◌∷◌, ◌∙◌, [], refl}
-use Rattle.local_folder.specs.Steps.{Moved, SyncedFile, SyncedNames, spare_path, moved_in}
+use Rattle.local_folder.specs.Steps.{Moved, SyncedNames, spare_path, moved_in}
 use Rattle.local_folder.proofs.StepLemmas.{none-done, on-path}
 use Rattle.local_folder.proofs.changes.move_spare.Goals as goal
 
@@ -18,7 +18,7 @@ returns-in-Err-takes_file g c = record { order = none-done (moved_in c.args.name
 pub returns-in_default : goal.returns-in_default
 returns-in_default g c = record {
   order =
-      on-path (λ above path. SyncedFile ∷ Moved spare_path path ∷ SyncedNames above ∷ []) c.in-Some.above.now c.args.names.now c.in-Some.name.now
+      on-path (λ above path. Moved spare_path path ∷ SyncedNames above ∷ []) c.in-Some.above.now c.args.names.now c.in-Some.name.now
       (g.C.DirectoryCalls.steps c.args.calls.now) (g.C.DirectoryCalls.steps c.takes_file.new.calls) (g.C.DirectoryCalls.steps c.move_into.new.calls) c.move_into.result
       c.in-Some.ensures.cases.0 (c.in_default.ensures.stays ∙ c.in-Ok.ensures.stays) (c.move_into.ensures.order c.in-Some.above.now c.in-Ok.ensures.told);
 }

@@ -1,6 +1,7 @@
 -- The tree is got, looked at, a plan made for it, and done.
 use Rattle.std.proofs.Common.{List, inl, inr, refl, subst}
 use Rattle.tree_checkout.specs.declared.planning.Due.{Due}
+use Rattle.tree_checkout.proofs.TouchLemmas.{touches_none}
 use Rattle.sync_daemon.specs.Bringing.{AreMade}
 use Rattle.sync_daemon.proofs.BringLemmas.{brings_by, not_so}
 use Rattle.sync_daemon.proofs.bringing.bring.Goals as goal
@@ -36,6 +37,18 @@ returns-clause-value g c =
     (record {
       fetched = c.in-Ok.ensures.value;
       may = c.may_change.ensures.value.0 c.if-not-may_change.false;
-      planned = record { plans = c.in-Ok-plan_of.ensures.value; looks = c.in-Ok-plan_of.ensures.same; written = c.in-Ok-plan_of.ensures.written };
+      planned = record { plans = c.in-Ok-plan_of.ensures.value; looks = c.in-Ok-plan_of.ensures.same; gone = c.in-Ok-plan_of.ensures.gone; written = c.in-Ok-plan_of.ensures.written };
       made = subst (λ (dues : List Due). AreMade c.in-Ok.tree.objects dues c.in-Ok-writes_of.writes) c.slice.ensures.value c.in-Ok-writes_of.ensures.value;
     }) c.change.ensures.value
+
+pub returns-in-Err-clause-touches : goal.returns-in-Err-clause-touches
+returns-in-Err-clause-touches g c = touches_none c.args.cuts c.args.settled.now.scan _ _ refl
+
+pub returns-then-not-may_change-clause-touches : goal.returns-then-not-may_change-clause-touches
+returns-then-not-may_change-clause-touches g c = touches_none c.args.cuts c.args.settled.now.scan _ _ refl
+
+pub returns-in-Err-plan_of-clause-touches : goal.returns-in-Err-plan_of-clause-touches
+returns-in-Err-plan_of-clause-touches g c = touches_none c.args.cuts c.args.settled.now.scan _ _ refl
+
+pub returns-in-Err-writes_of-clause-touches : goal.returns-in-Err-writes_of-clause-touches
+returns-in-Err-writes_of-clause-touches g c = touches_none c.args.cuts c.args.settled.now.scan _ _ refl

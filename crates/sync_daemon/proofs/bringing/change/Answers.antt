@@ -1,5 +1,6 @@
 -- The checkout, and what is known then.
 use Rattle.std.proofs.Common.{inl, inr, refl}
+use Rattle.tree_checkout.proofs.TouchLemmas.{touches_none}
 use Rattle.sync_daemon.proofs.BringLemmas.{knows_by, out_by, stops_by}
 use Rattle.sync_daemon.proofs.bringing.change.Goals as goal
 
@@ -33,3 +34,6 @@ returns-in-Err-known_entries-clause-value g c = inr (inr (
       c.in-Ok-checkout.owns c.in-Ok-checkout.ensures.ok,
   refl,
 ))
+
+pub returns-in-Err-clause-touches : goal.returns-in-Err-clause-touches
+returns-in-Err-clause-touches g c = touches_none c.args.cuts c.args.scan.now _ _ refl

@@ -1,5 +1,6 @@
 -- Nothing to do; the head is the commit that was pushed; or it is another.
 use Rattle.std.proofs.Common.{inl, inr, refl}
+use Rattle.tree_checkout.proofs.TouchLemmas.{touches_none}
 use Rattle.sync_daemon.proofs.BringLemmas.{knows_fails, knows_finishes, not_so, reaches_finishes}
 use Rattle.sync_daemon.proofs.finishing.finish.Goals as goal
 
@@ -27,3 +28,15 @@ returns-clause-value g c =
     reaches_finishes c.args.asker.now c.args.user.now c.args.cuts c.args.settled (g.R.Remote.sends c.args.remote.now) (g.F.Folder.told c.args.folder.now) c.args.index.now c.reach.new.index
     (g.R.Remote.sends c.reach.new.remote) (g.F.Folder.told c.reach.new.folder) c.reach.result (not_so c.is_done.result c.is_done.ensures.value c.if-is_done.false)
     (not_so c.in-Ok.own c.in-Ok.ensures.value c.if-own.false) c.reach.ensures.value
+
+pub returns-then-settled-clause-touches : goal.returns-then-settled-clause-touches
+returns-then-settled-clause-touches g c = touches_none c.args.cuts c.args.settled.scan _ _ refl
+
+pub returns-then-is_done-clause-touches : goal.returns-then-is_done-clause-touches
+returns-then-is_done-clause-touches g c = touches_none c.args.cuts c.args.settled.scan _ _ refl
+
+pub returns-in-Err-clause-touches : goal.returns-in-Err-clause-touches
+returns-in-Err-clause-touches g c = touches_none c.args.cuts c.args.settled.scan _ _ refl
+
+pub returns-then-own-clause-touches : goal.returns-then-own-clause-touches
+returns-then-own-clause-touches g c = touches_none c.args.cuts c.args.settled.scan _ _ refl

@@ -1,6 +1,7 @@
 -- The folder is scanned.
 use Rattle.std.proofs.Common.{◌≡◌, Option, Some, subst, ◌∙◌}
 use Rattle.folder_side.specs.Folder.{Contents}
+use Rattle.folder_side.proofs.CallLemmas.{glances_then}
 use Rattle.sync_daemon.specs.Rounds.{IsChecked, IsSeen, RoundSo, sync_of}
 use Rattle.sync_daemon.proofs.MeetLemmas.{scan_fails}
 use Rattle.sync_daemon.proofs.round.checked_round.Goals as goal
@@ -21,3 +22,6 @@ returns-clause-value g c = λ start before late is checked.
     → RoundSo (sync_of c.args.asker.now c.args.user.now (g.C.Clock.shows c.args.clock.now) c.args.cuts told c.args.index.now) start (g.R.Remote.sends c.scanned_round.new.remote) late
     c.scanned_round.result)
     c.scan_folder.ensures.stays (c.scanned_round.ensures.value start before late (c.rest.ensures.stays.1 ∙ is)) checked c.in-Ok.ensures.value
+
+pub returns-clause-traced : goal.returns-clause-traced
+returns-clause-traced g c = glances_then _ _ _ c.scan_folder.ensures.traced c.scanned_round.ensures.traced

@@ -1,5 +1,6 @@
 use Rattle.std.proofs.Common.{refl}
 use Rattle.tree_checkout.proofs.CheckingOutLemmas.{checks_out, stops_removing, stops_writing}
+use Rattle.tree_checkout.proofs.TouchLemmas.{touches_then}
 use Rattle.tree_checkout.proofs.checking_out.checkout.Goals as goal
 
 pub returns-in-Err-clause-err : goal.returns-in-Err-clause-err
@@ -26,3 +27,9 @@ returns-in-Err-write_all-clause-same g c = λ c' told once looks others unwritte
 pub returns-clause-found : goal.returns-clause-found
 returns-clause-found g c = λ c' told once others.
     (c.in-Ok.ensures.found c' told once, c.in-Ok-write_all.ensures.found _ (c.in-Ok.ensures.ok.left c' told) others)
+
+pub returns-in-Err-write_all-clause-touches : goal.returns-in-Err-write_all-clause-touches
+returns-in-Err-write_all-clause-touches g c = touches_then c.args.cuts c.args.scan.now _ _ _ c.in-Ok.ensures.touches c.in-Err-write_all.ensures.touches
+
+pub returns-clause-touches : goal.returns-clause-touches
+returns-clause-touches g c = touches_then c.args.cuts c.args.scan.now _ _ _ c.in-Ok.ensures.touches c.in-Ok-write_all.ensures.touches

@@ -2,6 +2,8 @@ use Rattle.std.proofs.Common.{◌≡◌, ◌<◌, ◌≤◌, ◌∙◌, ℕ, Lis
 use Rattle.block_chunker.specs.ChunkerProgress.{Progress}
 use Rattle.tree_checkout.proofs.OneChunkLemmas.{one_chunk}
 use Rattle.tree_checkout.proofs.WritingLemmas.{filling_end, filling_more, filling_short, filling_start, filling_stop, filling_wanting}
+use Rattle.folder_side.specs.Calls.{SpareCleared}
+use Rattle.tree_checkout.proofs.TouchLemmas.{none_one, none_then}
 use Rattle.tree_checkout.proofs.writing.fill_spare.Goals as goal
 
 pub returns-in-Err-add_block-clause-err : goal.returns-in-Err-add_block-clause-err
@@ -15,6 +17,7 @@ pub loop-block-init : goal.loop-block-init
 loop-block-init g c = record {
   told = c.in-Ok.ensures.stays;
   faults = c.in-Ok.ensures.faults;
+  quiet = none_one SpareCleared _ _ refl c.in-Ok.ensures.traced;
   alive = ap (λ (p : Progress). p.failed) c.new-chunker.ensures.value;
   peer = refl;
   filling =
@@ -26,6 +29,7 @@ pub loop-block-preserved : goal.loop-block-preserved
 loop-block-preserved g c = record {
   told = c.in-Ok-add_block.ensures.untouched ∙ c.loop-block.invariant.told;
   faults = c.in-Ok-add_block.ensures.faults ∙ c.loop-block.invariant.faults;
+  quiet = none_then _ _ _ c.loop-block.invariant.quiet c.in-Ok-add_block.ensures.traced;
   alive = ap (λ (p : Progress). p.failed) c.in-Ok-add_block.ensures.ok.fed ∙ c.loop-block.invariant.alive;
   peer = c.in-Ok-add_block.ensures.stays ∙ c.loop-block.invariant.peer;
   filling =
@@ -59,3 +63,9 @@ returns-clause-err g c =
     filling_short c.args.source.now c.args.file.now c.args.cuts c.loop-block.block-index c.loop-block.left _ _ _ _ c.loop-block.chunker c.loop-block.names
     (subst (λ (ids : List (List ℕ)). length ids ≤ c.loop-block.block-index) c.slice-block-items.ensures.value (omega arith))
     c.if-left-eq0.false c.loop-block.invariant.filling c.wrong_size.result c.wrong_size.ensures.value
+
+pub returns-in-Err-clause-traced : goal.returns-in-Err-clause-traced
+returns-in-Err-clause-traced g c = none_one SpareCleared _ _ refl c.in-Err.ensures.traced
+
+pub returns-in-Err-add_block-clause-traced : goal.returns-in-Err-add_block-clause-traced
+returns-in-Err-add_block-clause-traced g c = none_then _ _ _ c.loop-block.invariant.quiet c.in-Err-add_block.ensures.traced

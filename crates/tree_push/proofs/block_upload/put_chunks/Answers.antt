@@ -4,6 +4,7 @@ use Rattle.std.proofs.lemmas.List.{nil_from_length, reverse-reverse}
 use Rattle.sha1.specs.Sha1.{sha1}
 use Rattle.tree_push.specs.BlockUpload.{IsPutting}
 use Rattle.tree_push.proofs.BlockUploadLemmas.{IsTaking, one_taken, putting_end, putting_more, putting_next, putting_start, taking_end, taking_more, taking_start, taking_stop}
+use Rattle.tree_push.proofs.SentOnceLemmas.{takes_none, takes_then}
 use Rattle.tree_push.proofs.block_upload.put_chunks.Goals as goal
 
 pub loop-chunk-init : goal.loop-chunk-init
@@ -15,6 +16,7 @@ loop-chunk-init g c =
           (λ (more : List (List ℕ)). IsTaking c.args.library.now (map sha1 c.args.chunks) (map sha1 more) c.args.lacking.now c.args.lacking.now (g.R.Remote.sends c.args.remote.now)
           (g.R.Remote.sends c.args.remote.now))
           (sym all) (taking_start c.args.library.now (map sha1 c.args.chunks) c.args.lacking.now (g.R.Remote.sends c.args.remote.now));
+      once = takes_none c.args.lacking.now (g.R.Remote.sends c.args.remote.now);
       putting = subst (λ (more : List (List ℕ)). IsPutting c.args.chunks c.args.left.now more c.args.left.now) (sym all) (putting_start c.args.chunks c.args.left.now);
     }
 
@@ -26,6 +28,7 @@ loop-chunk-preserved g c =
       taking = taking_more c.args.library.now (map sha1 c.args.chunks) (map sha1 (reverse c.loop-chunk.waiting.items)) c.args.lacking.now c.loop-chunk.lacking (g.R.Remote.sends c.args.remote.now)
           (g.R.Remote.sends c.loop-chunk.remote) c.loop-chunk.invariant.taking (sha1 c.in-Some.chunk ∷ []) (map sha1 (reverse c.pop.new.self.items)) c.put_chunk.new.lacking
           (g.R.Remote.sends c.put_chunk.new.remote) (ap (map sha1) taken) c.in-Ok.ensures.value;
+      once = takes_then c.args.lacking.now c.loop-chunk.lacking c.put_chunk.new.lacking _ _ _ c.loop-chunk.invariant.once c.in-Ok.ensures.once;
       putting = putting_more c.args.chunks c.args.left.now (reverse c.pop.new.self.items) c.loop-chunk.rest.now c.in-Ok.behind.now c.in-Some.chunk
           (subst (λ (more : List (List ℕ)). IsPutting c.args.chunks c.args.left.now more c.loop-chunk.rest.now) taken c.loop-chunk.invariant.putting) c.in-Ok.ensures.rest;
     }
@@ -52,3 +55,6 @@ pub returns-clause-value : goal.returns-clause-value
 returns-clause-value g c =
     let none : reverse c.loop-chunk.waiting.items ≡ [] = ap reverse (nil_from_length c.loop-chunk.waiting.items (sym c.loop-chunk.waiting.ok.0 ∙ c.in_default.ensures.cases.0)) in
     taking_end c.args.library.now (map sha1 c.args.chunks) (map sha1 (reverse c.loop-chunk.waiting.items)) c.args.lacking.now c.loop-chunk.lacking _ _ c.loop-chunk.invariant.taking (ap (map sha1) none)
+
+pub returns-in-Err-clause-once : goal.returns-in-Err-clause-once
+returns-in-Err-clause-once g c = takes_then c.args.lacking.now c.loop-chunk.lacking c.put_chunk.new.lacking _ _ _ c.loop-chunk.invariant.once c.in-Err.ensures.once

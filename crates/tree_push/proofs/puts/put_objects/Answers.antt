@@ -5,8 +5,9 @@ use Rattle.std.specs.FinMap as fin
 use Rattle.std.specs.Map.Iter.{deref_pair}
 use Rattle.std.proofs.lemmas.Map.Iter.{rest_more}
 use Rattle.ids.specs.declared.key.Key.{Key}
-use Rattle.tree_push.specs.Asking.{Ran}
+use Rattle.tree_push.specs.Asking.{Ran, PutsAmong}
 use Rattle.tree_push.proofs.PutsLemmas.{IsLeft, no_batch, putting_end, putting_more, putting_start, putting_stop}
+use Rattle.tree_push.proofs.SentOnceLemmas.{putting_front}
 use Rattle.tree_push.specs.Lacking.{has_key}
 use Rattle.tree_push.proofs.puts.put_objects.Goals as goal
 
@@ -26,7 +27,7 @@ loop-key-preserved g c =
       peer = c.in-Ok.ensures.stays ∙ c.loop-key.invariant.peer;
       rows = c.in-Ok.ensures.after;
       ran = putting_more c.args.library.now c.args.made.now c.args.lacking.now c.in-Some.key.now c.next.new.self c.loop-key.batch.rows c.put_object.new.batch.rows _ _ _
-          (subst (λ (left : List (Key × ⊤)). Ran c.args.library.now (has_key c.args.lacking.now) (IsLeft c.args.made.now (fin.keys c.args.lacking.now) left c.loop-key.batch.rows) (g.R.Remote.sends c.args.remote.now) (g.R.Remote.sends c.loop-key.remote))
+          (subst (λ (left : List (Key × ⊤)). Ran c.args.library.now (PutsAmong (has_key c.args.lacking.now)) (IsLeft c.args.made.now (fin.keys c.args.lacking.now) left c.loop-key.batch.rows) (g.R.Remote.sends c.args.remote.now) (g.R.Remote.sends c.loop-key.remote))
           next c.loop-key.invariant.ran)
           c.in-Ok.ensures.value;
     }
@@ -38,3 +39,11 @@ pub returns-clause-value : goal.returns-clause-value
 returns-clause-value g c =
     putting_end c.args.library.now c.args.made.now c.args.lacking.now c.loop-key.key-iterator c.loop-key.batch.rows c.put_batch.new.batch.rows _ _ _ c.put_batch.result c.in-None.ensures.steps.0
     c.put_batch.ensures.none c.loop-key.invariant.ran c.put_batch.ensures.value
+
+pub returns-in-Err-clause-once : goal.returns-in-Err-clause-once
+returns-in-Err-clause-once g c =
+    putting_front c.args.library.now c.args.made.now c.args.lacking.now c.loop-key.key-iterator c.loop-key.batch.rows _ _ _ c.loop-key.invariant.ran c.in-Err.ensures.once
+
+pub returns-clause-once : goal.returns-clause-once
+returns-clause-once g c =
+    putting_front c.args.library.now c.args.made.now c.args.lacking.now c.loop-key.key-iterator c.loop-key.batch.rows _ _ _ c.loop-key.invariant.ran c.put_batch.ensures.once

@@ -8,10 +8,12 @@ use Rattle.std.proofs.lemmas.Map.Iter.{rest_more}
 use Rattle.ids.specs.FaultCount.{FailsBy}
 use Rattle.tree_model.specs.Path.{PathV}
 use Rattle.folder_side.specs.declared.scan_report.Seen.{Seen}
+use Rattle.folder_side.proofs.CallLemmas.{glances_same, glances_then}
 use Rattle.sync_rules.specs.Causes.{is_folder_fault}
 use Rattle.tree_push.specs.BlockUpload.{StandsThere}
 use Rattle.tree_push.specs.Upload.{blocks_in, blocks_of}
 use Rattle.tree_push.proofs.BlockUploadLemmas.{IsTaking, taking_end, taking_more, taking_start, taking_stop}
+use Rattle.tree_push.proofs.SentOnceLemmas.{takes_none, takes_then}
 use Rattle.tree_push.proofs.UploadLemmas.{HoldsOrLeft, holds_end, holds_more, holds_start}
 use Rattle.tree_push.proofs.WantedLemmas.{entries_are}
 use Rattle.tree_push.proofs.upload.put_files.Goals as goal
@@ -22,12 +24,14 @@ loop-path-init g c =
     record {
       told = refl;
       spare = refl;
+      traced = glances_same _ _ refl;
       faults = refl;
       peer = refl;
       taking = subst
           (λ (left : List (PathV × Seen)). IsTaking c.args.library.now (blocks_in (fin.entries c.args.paths.now)) (blocks_in left) c.args.lacking.now c.args.lacking.now
           (g.R.Remote.sends c.args.remote.now) (g.R.Remote.sends c.args.remote.now))
           all (taking_start c.args.library.now (blocks_in (fin.entries c.args.paths.now)) c.args.lacking.now (g.R.Remote.sends c.args.remote.now));
+      once = takes_none c.args.lacking.now (g.R.Remote.sends c.args.remote.now);
       holds = λ c' told.
           subst (λ (left : List (PathV × Seen)). HoldsOrLeft (λ path s. IsSome (fin.get c.args.owns.now path) → StandsThere c.args.cuts c' path s) c.args.paths.now left) all
           (holds_start (λ path s. IsSome (fin.get c.args.owns.now path) → StandsThere c.args.cuts c' path s) c.args.paths.now);
@@ -41,11 +45,13 @@ loop-path-preserved g c =
     record {
       told = c.in-Ok.ensures.stays.0 ∙ c.loop-path.invariant.told;
       spare = c.in-Ok.ensures.stays.1 ∙ c.loop-path.invariant.spare;
+      traced = glances_then _ _ _ c.loop-path.invariant.traced c.in-Ok.ensures.traced;
       faults = c.in-Ok.ensures.faults ∙ c.loop-path.invariant.faults;
       peer = c.in-Ok.ensures.stays.2 ∙ c.loop-path.invariant.peer;
       taking = taking_more c.args.library.now (blocks_in (fin.entries c.args.paths.now)) (blocks_in c.loop-path.path-iterator) c.args.lacking.now c.loop-path.lacking (g.R.Remote.sends c.args.remote.now)
           (g.R.Remote.sends c.loop-path.remote) c.loop-path.invariant.taking (blocks_of c.in-Some.seen.now) (blocks_in c.next.new.self) c.put_seen.new.lacking (g.R.Remote.sends c.put_seen.new.remote)
           (ap blocks_in next) c.in-Ok.ensures.value;
+      once = takes_then c.args.lacking.now c.loop-path.lacking c.put_seen.new.lacking _ _ _ c.loop-path.invariant.once c.in-Ok.ensures.once;
       holds = λ c' told.
           holds_more (λ path s. IsSome (fin.get c.args.owns.now path) → StandsThere c.args.cuts c' path s) c.args.paths.now (c.in-Some.path.now, c.in-Some.seen.now) c.next.new.self
           (subst (λ (left : List (PathV × Seen)). HoldsOrLeft (λ path s. IsSome (fin.get c.args.owns.now path) → StandsThere c.args.cuts c' path s) c.args.paths.now left) next
@@ -80,3 +86,9 @@ returns-clause-same g c = λ c' told.
     holds_end (λ path s. IsSome (fin.get c.args.owns.now path) → StandsThere c.args.cuts c' path s) c.args.paths.now
     (subst (λ (left : List (PathV × Seen)). HoldsOrLeft (λ path s. IsSome (fin.get c.args.owns.now path) → StandsThere c.args.cuts c' path s) c.args.paths.now left) c.in-None.ensures.steps.0
     (c.loop-path.invariant.holds c' told))
+
+pub returns-in-Err-clause-once : goal.returns-in-Err-clause-once
+returns-in-Err-clause-once g c = takes_then c.args.lacking.now c.loop-path.lacking c.put_seen.new.lacking _ _ _ c.loop-path.invariant.once c.in-Err.ensures.once
+
+pub returns-in-Err-clause-traced : goal.returns-in-Err-clause-traced
+returns-in-Err-clause-traced g c = glances_then _ _ _ c.loop-path.invariant.traced c.in-Err.ensures.traced
